@@ -1,0 +1,4 @@
+pub mod Said
+pub mod Memories
+pub mod Ports
+pub mod Table

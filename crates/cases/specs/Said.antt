@@ -1,0 +1,26 @@
+-- The words in which document 01 gives the outcome of a worked case.
+use Prim.Native.Nat.{ℕ, suc, _+_}
+use mathlib.Core.List.{List, [], _∷_}
+use mathlib.Core.Bool.{Bool, cond}
+use lib.Dec.{eqb}
+
+pub data Said : Type 0 where
+  Private : (place : ℕ) → Said
+  Shared : (place : ℕ) → Said
+  Screen : (place : ℕ) → Said
+  Attribute : (place : ℕ) → Said
+  Refused : (number : ℕ) → Said
+  Interlaced : Bool → Said
+  Recalls : ℕ → Said
+
+-- a case: what the definitions give, and what document 01 says
+pub record Case : Type 0 where
+  pub gives : List Said
+  pub says : List Said
+
+-- the places, counted from `place`, at which two memories of one length differ
+unfoldable pub differ : ℕ → List ℕ → List ℕ → List ℕ
+differ place [] [] = []
+differ place [] (b ∷ new) = []
+differ place (a ∷ before) [] = []
+differ place (a ∷ before) (b ∷ new) = let later = differ (place + 1) before new in cond (eqb a b) later (place ∷ later)

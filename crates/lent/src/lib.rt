@@ -1,0 +1,53 @@
+// What every call has in common: the lengths of the memories that a caller lends, the numbers of
+// refusal, and the answer of a call that reads a byte. Document 01, "Lent memory" and "Numbers of
+// refusal".
+ghost use mathlib.Core.Path.{_≡_};
+ghost use Rattle.lent.specs.Answer.{byteRead, readRefused};
+
+pub const SHARED_BYTES: usize = 65536;
+
+pub const PRIVATE_BYTES: usize = 2048;
+
+pub const SCREEN_BYTES: usize = 4096;
+
+pub const ATTRIBUTE_BYTES: usize = 4096;
+
+pub const NVM_BYTES: usize = 256;
+
+pub const SHADOW_BYTES: usize = 256;
+
+// The refusal of a call that is accepted.
+pub const ACCEPTED: u8 = 0;
+// A lent buffer's length differs from the list.
+pub const LENGTH: u8 = 1;
+// The 8088's address lies in none of its three ranges.
+pub const ADDRESS: u8 = 2;
+// The port is none of 04, 0A, 0C, 10C.
+pub const PORT: u8 = 3;
+// The code is not in that port's list.
+pub const CODE: u8 = 4;
+// A shadow place over 255.
+pub const PLACE: u8 = 5;
+// Bits 6 and 7 of 0A both rise in one write.
+pub const EDGES: u8 = 6;
+
+// The answer of a call that reads a byte: the byte, or a refusal beside which the byte is 0.
+pub struct ByteRead {
+    pub refusal: u8,
+    pub byte: u8,
+}
+
+pub fn byte_read(byte: u8) -> ByteRead
+    ensures { λ r. ⌜ r ≡ byteRead byte ⌝ }
+{
+    ByteRead {
+        refusal: ACCEPTED,
+        byte,
+    }
+}
+
+pub fn read_refused(refusal: u8) -> ByteRead
+    ensures { λ r. ⌜ r ≡ readRefused refusal ⌝ }
+{
+    ByteRead { refusal, byte: 0 }
+}

@@ -1,0 +1,68 @@
+// The machine's own state, a struct by value. Document 01, "Ports": what the ports set, how it is at
+// power-up, and the vertical tick.
+ghost use mathlib.Core.Path.{_≡_};
+ghost use Rattle.machine.specs.Power.{powerUp, verticalTick};
+ghost use Rattle.machine.specs.Settings.{columns, blanked, graphics};
+
+pub struct Machine {
+    // 132 columns, else 80.
+    pub columns132: bool,
+    // 50 Hz, else 60.
+    pub hertz50: bool,
+    pub interlace: bool,
+    // The scroll latch, read modulo 16.
+    pub latch: u8,
+    // The blink flip-flop.
+    pub blink: bool,
+    // The vertical interrupt.
+    pub interrupt: bool,
+    // Reverse field.
+    pub reverse: bool,
+    // The watchdog is enabled.
+    pub watchdog: bool,
+    // The byte held by port 0A.
+    pub held: u8,
+}
+
+impl Machine {
+    pub fn power_up() -> Machine
+        ensures { λ r. ⌜ r ≡ powerUp ⌝ }
+    {
+        Machine {
+            columns132: false,
+            hertz50: false,
+            interlace: false,
+            latch: 0,
+            blink: false,
+            interrupt: false,
+            reverse: false,
+            watchdog: false,
+            held: 0,
+        }
+    }
+
+    pub fn vertical_tick(mut self) -> Machine
+        ensures { λ r. ⌜ r ≡ verticalTick self ⌝ }
+    {
+        self.interrupt = true;
+        self
+    }
+
+    pub fn columns(self) -> usize
+        ensures { λ r. ⌜ r ≡ columns self ⌝ }
+    {
+        if self.columns132 { 132 } else { 80 }
+    }
+
+    pub fn blanked(self) -> bool
+        ensures { λ r. ⌜ r ≡ blanked self ⌝ }
+    {
+        self.held / 2 % 2 == 0
+    }
+
+    pub fn graphics(self) -> bool
+        ensures { λ r. ⌜ r ≡ graphics self ⌝ }
+    {
+        self.held / 4 % 2 == 1
+    }
+}

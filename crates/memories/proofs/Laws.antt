@@ -1,0 +1,78 @@
+-- Laws about what the two processors see: when a range holds an address, what the lengths tell, and that a place seen lies in
+-- its memory.
+use Prim.Native.Nat.{ℕ, _+_, _-_, _≤_, _<_}
+use mathlib.Core.Path.{_≡_, refl, subst, sym, _∙_}
+use mathlib.Core.Bool.{Bool, true, false, cond, _&&_, and-false, and-eq-true-iff}
+use native.Mathlib.Omega.{arith}
+use borrow.Author.Tests.{le-leb, lt-leb, leb-true, leb-false, eqb-true}
+use lib.Dec.{leb, eqb}
+use Rattle.lent.specs.Lengths.{sharedBytes, screenBytes, attributeBytes, privateBytes}
+use Rattle.memories.specs.View8088.{within, seen8088, lengths8088}
+use Rattle.memories.specs.ViewZ80.{lengthsZ80, isPrivate}
+use Rattle.memories.specs.declared.view8088.Seen.{Seen}
+use Rattle.memories.specs.declared.view8088.Seen.the-variants.{Shared, Screen, Attribute, Nowhere}
+
+module _ (first last a : ℕ) where
+  pub inside : first ≤ a → a ≤ last → within first last a ≡ true
+  unfolding within
+  inside h k = rw (le-leb first a h, le-leb a last k)
+
+  pub under : a < first → within first last a ≡ false
+  unfolding within
+  under h = rw (lt-leb first a h)
+
+  pub over : last < a → within first last a ≡ false
+  unfolding within
+  over h = rw (lt-leb a last h) (and-false (leb first a))
+
+  pub told : within first last a ≡ true → (first ≤ a) × (a ≤ last)
+  unfolding within
+  told e =
+      let both = and-eq-true-iff (leb first a) (leb a last) .0 e in
+      (leb-true first a (both .0), leb-true a last (both .1))
+
+-- the place that is seen lies in its memory, as far from the memory's first place as the address from its first address
+abbrev pub Lies : ℕ → Seen → Type 0
+Lies a (Shared place) = (place < sharedBytes) × (a ≡ 0x00000 + place)
+Lies a (Screen place) = (place < screenBytes) × (a ≡ 0xEE000 + place)
+Lies a (Attribute place) = (place < attributeBytes) × (a ≡ 0xEF000 + place)
+Lies a Nowhere = Unit {0}
+
+lies : (a : ℕ) → Lies a (seen8088 a)
+unfolding seen8088
+lies a = go (within 0x00000 0x0FFFF a) (within 0xEE000 0xEEFFF a) (within 0xEF000 0xEFFFF a) refl refl refl
+  where
+    go :
+        (x y z : Bool) → within 0x00000 0x0FFFF a ≡ x → within 0xEE000 0xEEFFF a ≡ y → within 0xEF000 0xEFFFF a ≡ z
+        → Lies a (cond x (Shared a) (cond y (Screen (a - 0xEE000)) (cond z (Attribute (a - 0xEF000)) Nowhere)))
+    go true y z h i j = omega (arith, told 0x00000 0x0FFFF a h)
+    go false true z h i j = omega (arith, told 0xEE000 0xEEFFF a i)
+    go false false true h i j = omega (arith, told 0xEF000 0xEFFFF a j)
+    go false false false h i j = tt
+
+pub placed : (a : ℕ) {answer seen : Seen} → answer ≡ seen8088 a → answer ≡ seen → Lies a seen
+placed a e h = subst (Lies a) (sym e ∙ h) (lies a)
+
+-- the lengths are those of the list where the test holds
+pub lent8088 :
+    {shared screen attribute : ℕ} → lengths8088 shared screen attribute ≡ true
+    → (shared ≡ sharedBytes) × ((screen ≡ screenBytes) × (attribute ≡ attributeBytes))
+unfolding lengths8088
+lent8088 e =
+    let outer = and-eq-true-iff _ _ .0 e in
+    let inner = and-eq-true-iff _ _ .0 (outer .1) in
+    (eqb-true _ _ (outer .0), (eqb-true _ _ (inner .0), eqb-true _ _ (inner .1)))
+
+pub lentZ80 : {private shared : ℕ} → lengthsZ80 private shared ≡ true → (private ≡ privateBytes) × (shared ≡ sharedBytes)
+unfolding lengthsZ80
+lentZ80 e =
+    let both = and-eq-true-iff _ _ .0 e in
+    (eqb-true _ _ (both .0), eqb-true _ _ (both .1))
+
+pub below0800 : (a : ℕ) → a < privateBytes → isPrivate a ≡ true
+unfolding isPrivate
+below0800 a h = le-leb a 0x07FF (omega arith)
+
+pub from0800 : (a : ℕ) → privateBytes ≤ a → isPrivate a ≡ false
+unfolding isPrivate
+from0800 a h = lt-leb a 0x07FF h

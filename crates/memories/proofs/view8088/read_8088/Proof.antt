@@ -1,0 +1,108 @@
+use mathlib.Core.Path.{sym, _∙_}
+use native.Mathlib.Omega.{arith}
+use Rattle.lent.proofs.Tests.{held, failed}
+use Rattle.memories.proofs.Laws.{lent8088, placed}
+use borrow.Author.Needs.{needs}
+use Rattle.memories.proofs.view8088.read_8088.Statement.{statement}
+use Rattle.memories.proofs.view8088.read_8088.Tie as tie
+use Rattle.memories.proofs.view8088.read_8088.Reads as reads
+use Rattle.memories.proofs.view8088.read_8088.Lts as lts
+use Rattle.lent.proofs.byte_read.Reads as byte-read-reads
+use Rattle.lent.proofs.read_refused.Reads as read-refused-reads
+use Rattle.memories.proofs.view8088.lengths_8088.Reads as lengths-8088-reads
+use Rattle.memories.proofs.view8088.seen_8088.Reads as seen-8088-reads
+
+lengths-8088-requires : tie.Need-lengths-8088-requires
+lengths-8088-requires c κs = search needs
+
+read-refused-requires : tie.Need-read-refused-requires
+read-refused-requires c κs = search needs
+
+returns : tie.Need-returns
+returns c = rw (failed (c .before .before .lengths-8088 .ensures) (c .before .if1 .taken)) (c .read-refused .ensures)
+
+seen-8088-requires : tie.Need-seen-8088-requires
+seen-8088-requires c κs = search needs
+
+enum-known-place : tie.Need-enum-known-place
+enum-known-place c = search needs
+
+shared-slice-read-byte-read : tie.Need-shared-slice-read-byte-read
+shared-slice-read-byte-read c =
+    let s = c .before .before .before .before in
+    omega (arith, lent8088 (held (s .before .before .lengths-8088 .ensures) (s .before .if1 .left)), placed _ (s .seen-8088 .ensures) (c .before .before .place .given .1))
+
+byte-read-requires : tie.Need-byte-read-requires
+byte-read-requires c κs = search needs
+
+enum-known-place-2 : tie.Need-enum-known-place-2
+enum-known-place-2 c = search needs
+
+shared-slice-read-byte-read-2 : tie.Need-shared-slice-read-byte-read-2
+shared-slice-read-byte-read-2 c =
+    let s = c .before .before .before .before in
+    omega (arith, lent8088 (held (s .before .before .lengths-8088 .ensures) (s .before .if1 .left)), placed _ (s .seen-8088 .ensures) (c .before .before .place2 .given .1))
+
+byte-read-requires-2 : tie.Need-byte-read-requires-2
+byte-read-requires-2 c κs = search needs
+
+enum-known-place-3 : tie.Need-enum-known-place-3
+enum-known-place-3 c = search needs
+
+shared-slice-read-byte-read-3 : tie.Need-shared-slice-read-byte-read-3
+shared-slice-read-byte-read-3 c =
+    let s = c .before .before .before .before in
+    omega (arith, lent8088 (held (s .before .before .lengths-8088 .ensures) (s .before .if1 .left)), placed _ (s .seen-8088 .ensures) (c .before .before .place3 .given .1))
+
+byte-read-requires-3 : tie.Need-byte-read-requires-3
+byte-read-requires-3 c κs = search needs
+
+enum-told : tie.Need-enum-told
+enum-told c = search needs
+
+read-refused-requires-2 : tie.Need-read-refused-requires-2
+read-refused-requires-2 c κs = search needs
+
+returns-2 : tie.Need-returns-2
+returns-2 c =
+    let s = c .before .before .before .before .before in
+    rw (held (s .before .before .lengths-8088 .ensures) (s .before .if1 .left), sym (s .seen-8088 .ensures) ∙ c .before .before .before .place .given .1) (c .byte-read .ensures)
+
+returns-3 : tie.Need-returns-3
+returns-3 c =
+    let s = c .before .before .before .before .before in
+    rw (held (s .before .before .lengths-8088 .ensures) (s .before .if1 .left), sym (s .seen-8088 .ensures) ∙ c .before .before .before .place2 .given .1) (c .byte-read2 .ensures)
+
+returns-4 : tie.Need-returns-4
+returns-4 c =
+    let s = c .before .before .before .before .before in
+    rw (held (s .before .before .lengths-8088 .ensures) (s .before .if1 .left), sym (s .seen-8088 .ensures) ∙ c .before .before .before .place3 .given .1) (c .byte-read3 .ensures)
+
+returns-5 : tie.Need-returns-5
+returns-5 c =
+    let s = c .before .before .before in
+    rw (held (s .before .before .lengths-8088 .ensures) (s .before .if1 .left), sym (s .seen-8088 .ensures) ∙ c .before .enum-told .given .1) (c .read-refused2 .ensures)
+
+pub read-8088-spec : {M : Type 1} → statement M
+read-8088-spec =
+    tie.close
+    (tie.spec
+    lengths-8088-requires
+    read-refused-requires
+    returns
+    seen-8088-requires
+    enum-known-place
+    shared-slice-read-byte-read
+    byte-read-requires
+    enum-known-place-2
+    shared-slice-read-byte-read-2
+    byte-read-requires-2
+    enum-known-place-3
+    shared-slice-read-byte-read-3
+    byte-read-requires-3
+    enum-told
+    read-refused-requires-2
+    returns-2
+    returns-3
+    returns-4
+    returns-5)

@@ -1,0 +1,54 @@
+use native.Mathlib.Omega.{arith}
+use Rattle.lent.proofs.Tests.{held, failed}
+use Rattle.memories.proofs.Laws.{lentZ80, below0800, from0800}
+use borrow.Author.Needs.{needs}
+use Rattle.memories.proofs.viewz80.store_z80.Statement.{statement}
+use Rattle.memories.proofs.viewz80.store_z80.Tie as tie
+use Rattle.memories.proofs.viewz80.store_z80.Reads as reads
+use Rattle.memories.proofs.viewz80.store_z80.Lts as lts
+use Rattle.memories.proofs.viewz80.lengths_z80.Reads as lengths-z80-reads
+
+lengths-z80-requires : tie.Need-lengths-z80-requires
+lengths-z80-requires c κs = search needs
+
+returns : tie.Need-returns
+returns c = rw (failed (c .before .lengths-z80 .ensures) (c .if1 .taken))
+
+slice-write-private : tie.Need-slice-write-private
+slice-write-private c =
+    let s = c .before in
+    omega (arith, lentZ80 (held (s .before .lengths-z80 .ensures) (s .if1 .left)))
+
+slice-write-shared : tie.Need-slice-write-shared
+slice-write-shared c =
+    let s = c .before in
+    omega (arith, lentZ80 (held (s .before .lengths-z80 .ensures) (s .if1 .left)))
+
+same-length : tie.Need-same-length
+same-length c = search needs
+
+returns-2 : tie.Need-returns-2
+returns-2 c =
+    let s = c .before in
+    rw (held (s .before .lengths-z80 .ensures) (s .if1 .left), below0800 _ (c .if2 .taken))
+
+same-length-2 : tie.Need-same-length-2
+same-length-2 c = search needs
+
+returns-3 : tie.Need-returns-3
+returns-3 c =
+    let s = c .before in
+    rw (held (s .before .lengths-z80 .ensures) (s .if1 .left), from0800 _ (c .if2 .left))
+
+pub store-z80-spec : {M : Type 1} → statement M
+store-z80-spec =
+    tie.close
+    (tie.spec
+    lengths-z80-requires
+    returns
+    slice-write-private
+    slice-write-shared
+    same-length
+    returns-2
+    same-length-2
+    returns-3)

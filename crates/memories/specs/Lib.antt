@@ -1,0 +1,2 @@
+pub mod View8088
+pub mod ViewZ80

@@ -1,0 +1,62 @@
+-- Document 01, "Lent memory": what the 8088 sees, reads and stores.
+use Prim.Native.Nat.{ℕ, _-_}
+use mathlib.Core.List.{List}
+use mathlib.Core.Bool.{Bool, true, false, cond, _&&_}
+use lib.ListN.{length, getD, set}
+use lib.Dec.{leb, eqb}
+use Rattle.lent.specs.Lengths.{sharedBytes, screenBytes, attributeBytes}
+use Rattle.lent.specs.Refusals.{accepted, lengthRefused, addressRefused}
+use Rattle.lent.specs.Answer.{byteRead, readRefused}
+use Rattle.lent.specs.declared.ByteRead.{ByteRead}
+use Rattle.memories.specs.declared.view8088.Seen.{Seen}
+use Rattle.memories.specs.declared.view8088.Seen.the-variants.{Shared, Screen, Attribute, Nowhere}
+
+unfoldable pub within : ℕ → ℕ → ℕ → Bool
+within first last address = leb first address && leb address last
+
+-- "The 8088 sees shared at 00000 to 0FFFF, screen at EE000 to EEFFF, attribute at EF000 to EFFFF"
+unfoldable pub seen8088 : ℕ → Seen
+seen8088 address =
+    cond (within 0x00000 0x0FFFF address) (Shared address)
+    (cond (within 0xEE000 0xEEFFF address) (Screen (address - 0xEE000))
+    (cond (within 0xEF000 0xEFFFF address) (Attribute (address - 0xEF000)) Nowhere))
+
+-- the three lengths are those of the list
+unfoldable pub lengths8088 : ℕ → ℕ → ℕ → Bool
+lengths8088 shared screen attribute =
+    eqb shared sharedBytes && (eqb screen screenBytes && eqb attribute attributeBytes)
+
+abbrev pub byteSeen : Seen → List ℕ → List ℕ → List ℕ → ByteRead
+byteSeen (Shared place) shared screen attribute = byteRead (getD shared place 0)
+byteSeen (Screen place) shared screen attribute = byteRead (getD screen place 0)
+byteSeen (Attribute place) shared screen attribute = byteRead (getD attribute place 0)
+byteSeen Nowhere shared screen attribute = readRefused addressRefused
+
+abbrev pub read8088 : List ℕ → List ℕ → List ℕ → ℕ → ByteRead
+read8088 shared screen attribute address =
+    cond (lengths8088 (length shared) (length screen) (length attribute))
+    (byteSeen (seen8088 address) shared screen attribute)
+    (readRefused lengthRefused)
+
+-- what a store leaves: its answer and the three memories
+pub record Stored8088 : Type 0 where
+  pub refusal : ℕ
+  pub shared : List ℕ
+  pub screen : List ℕ
+  pub attribute : List ℕ
+
+abbrev pub stored8088 : ℕ → List ℕ → List ℕ → List ℕ → Stored8088
+stored8088 r shared screen attribute = record { refusal = r; shared = shared; screen = screen; attribute = attribute }
+
+-- the byte is stored where the 8088 sees the address; "all buffers .. stay" where it sees none
+abbrev pub storeSeen : Seen → List ℕ → List ℕ → List ℕ → ℕ → Stored8088
+storeSeen (Shared place) shared screen attribute byte = stored8088 accepted (set shared place byte) screen attribute
+storeSeen (Screen place) shared screen attribute byte = stored8088 accepted shared (set screen place byte) attribute
+storeSeen (Attribute place) shared screen attribute byte = stored8088 accepted shared screen (set attribute place byte)
+storeSeen Nowhere shared screen attribute byte = stored8088 addressRefused shared screen attribute
+
+abbrev pub store8088 : List ℕ → List ℕ → List ℕ → ℕ → ℕ → Stored8088
+store8088 shared screen attribute address byte =
+    cond (lengths8088 (length shared) (length screen) (length attribute))
+    (storeSeen (seen8088 address) shared screen attribute byte)
+    (stored8088 lengthRefused shared screen attribute)

@@ -1,0 +1,24 @@
+use borrow.Author.Tests.{ne-eqb}
+use borrow.Author.Needs.{needs}
+use Rattle.ports.proofs.dc011.write_dc011.Statement.{statement}
+use Rattle.ports.proofs.dc011.write_dc011.Tie as tie
+use Rattle.ports.proofs.dc011.write_dc011.Reads as reads
+use Rattle.ports.proofs.dc011.write_dc011.Lts as lts
+
+returns : tie.Need-returns
+returns c = let none = c .match .rest in rw (ne-eqb _ _ (none .0 .0 .0 .1), ne-eqb _ _ (none .0 .0 .1), ne-eqb _ _ (none .0 .1), ne-eqb _ _ (none .1))
+
+returns-2 : tie.Need-returns-2
+returns-2 c = rw (c .match .keys1)
+
+returns-3 : tie.Need-returns-3
+returns-3 c = rw (c .match .keys2)
+
+returns-4 : tie.Need-returns-4
+returns-4 c = rw (c .match .keys3)
+
+returns-5 : tie.Need-returns-5
+returns-5 c = rw (c .match .keys4)
+
+pub write-dc011-spec : {M : Type 1} → statement M
+write-dc011-spec = tie.close (tie.spec returns returns-2 returns-3 returns-4 returns-5)

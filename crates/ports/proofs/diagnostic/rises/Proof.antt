@@ -1,0 +1,15 @@
+use borrow.Author.Tests.{eq-eqb, ne-eqb}
+use borrow.Author.Needs.{needs}
+use Rattle.ports.proofs.diagnostic.rises.Statement.{statement}
+use Rattle.ports.proofs.diagnostic.rises.Tie as tie
+use Rattle.ports.proofs.diagnostic.rises.Reads as reads
+use Rattle.ports.proofs.diagnostic.rises.Lts as lts
+
+returns : tie.Need-returns
+returns c = rw (ne-eqb _ _ (c .if1 .taken))
+
+returns-2 : tie.Need-returns-2
+returns-2 c = rw (eq-eqb _ _ (c .if1 .left))
+
+pub rises-spec : {M : Type 1} → statement M
+rises-spec = tie.close (tie.spec returns returns-2)

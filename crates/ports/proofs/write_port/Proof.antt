@@ -1,0 +1,81 @@
+use native.Mathlib.Omega.{arith}
+use borrow.Author.Tests.{ne-eqb}
+use Rattle.lent.proofs.Tests.{held, failed}
+use Rattle.ports.proofs.Laws.{lentNvm}
+use borrow.Author.Needs.{needs}
+use Rattle.ports.proofs.write_port.Statement.{statement}
+use Rattle.ports.proofs.write_port.Tie as tie
+use Rattle.ports.proofs.write_port.Reads as reads
+use Rattle.ports.proofs.write_port.Lts as lts
+use Rattle.ports.proofs.dc011.write_dc011.Reads as write-dc011-reads
+use Rattle.ports.proofs.dc012.write_dc012.Reads as write-dc012-reads
+use Rattle.ports.proofs.diagnostic.write_diagnostic.Reads as write-diagnostic-reads
+use Rattle.ports.proofs.lengths_nvm.Reads as lengths-nvm-reads
+use Rattle.ports.proofs.watched.Reads as watched-reads
+
+lengths-nvm-requires : tie.Need-lengths-nvm-requires
+lengths-nvm-requires c κs = search needs
+
+returns : tie.Need-returns
+returns c = rw (failed (c .before .lengths-nvm .ensures) (c .if1 .taken))
+
+write-dc011-requires : tie.Need-write-dc011-requires
+write-dc011-requires c κs = search needs
+
+write-diagnostic-requires : tie.Need-write-diagnostic-requires
+write-diagnostic-requires c κs = omega (arith, lentNvm (held (c .before .before .before .before .lengths-nvm .ensures) (c .before .before .before .if1 .left)))
+
+write-dc012-requires : tie.Need-write-dc012-requires
+write-dc012-requires c κs = search needs
+
+watched-requires : tie.Need-watched-requires
+watched-requires c κs = search needs
+
+write-dc012-requires-2 : tie.Need-write-dc012-requires-2
+write-dc012-requires-2 c κs = search needs
+
+watched-requires-2 : tie.Need-watched-requires-2
+watched-requires-2 c κs = search needs
+
+returns-2 : tie.Need-returns-2
+returns-2 c = rw (held (c .before .before .before .lengths-nvm .ensures) (c .before .before .if1 .left), c .before .match .keys1, c .write-dc011 .ensures)
+
+same-length : tie.Need-same-length
+same-length c = search needs
+
+same-length-2 : tie.Need-same-length-2
+same-length-2 c = search needs
+
+returns-3 : tie.Need-returns-3
+returns-3 c = rw (held (c .before .before .before .before .before .before .before .before .before .lengths-nvm .ensures) (c .before .before .before .before .before .before .before .before .if1 .left), c .before .before .before .before .before .before .before .match .keys2) (c .before .before .before .before .write-diagnostic .ensures)
+
+returns-4 : tie.Need-returns-4
+returns-4 c = rw (held (c .before .before .before .before .lengths-nvm .ensures) (c .before .before .before .if1 .left), c .before .before .match .keys3, c .watched .ensures, c .before .write-dc012 .ensures)
+
+returns-5 : tie.Need-returns-5
+returns-5 c = rw (held (c .before .before .before .before .lengths-nvm .ensures) (c .before .before .before .if1 .left), c .before .before .match .keys4, c .watched2 .ensures, c .before .write-dc0122 .ensures)
+
+returns-6 : tie.Need-returns-6
+returns-6 c =
+    let none = c .match .rest in
+    rw (held (c .before .before .lengths-nvm .ensures) (c .before .if1 .left), ne-eqb _ _ (none .0 .0 .0 .1), ne-eqb _ _ (none .0 .0 .1), ne-eqb _ _ (none .0 .1), ne-eqb _ _ (none .1))
+
+pub write-port-spec : {M : Type 1} → statement M
+write-port-spec =
+    tie.close
+    (tie.spec
+    lengths-nvm-requires
+    returns
+    write-dc011-requires
+    write-diagnostic-requires
+    write-dc012-requires
+    watched-requires
+    write-dc012-requires-2
+    watched-requires-2
+    returns-2
+    same-length
+    same-length-2
+    returns-3
+    returns-4
+    returns-5
+    returns-6)

@@ -1,0 +1,5 @@
+pub mod Written
+pub mod Dc011
+pub mod Dc012
+pub mod Diagnostic
+pub mod Ports

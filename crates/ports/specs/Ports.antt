@@ -1,0 +1,34 @@
+-- Document 01, "Ports": a write of a code to a port.
+use Prim.Native.Nat.{ℕ}
+use mathlib.Core.List.{List}
+use mathlib.Core.Bool.{Bool, true, false, cond, _&&_}
+use lib.ListN.{length}
+use lib.Dec.{eqb}
+use Rattle.lent.specs.Lengths.{shadowBytes, nvmBytes}
+use Rattle.lent.specs.Refusals.{accepted, lengthRefused, portRefused}
+use Rattle.machine.specs.declared.Machine.{Machine}
+use Rattle.machine.specs.Fields.{withWatchdog}
+use Rattle.ports.specs.declared.Written.{Written}
+use Rattle.ports.specs.Written.{done, refused, WrittenPort, writtenPort}
+use Rattle.ports.specs.Dc011.{writeDc011}
+use Rattle.ports.specs.Dc012.{writeDc012}
+use Rattle.ports.specs.Diagnostic.{writeDiagnostic}
+
+unfoldable pub lengthsNvm : ℕ → ℕ → Bool
+lengthsNvm shadow nvm = eqb shadow shadowBytes && eqb nvm nvmBytes
+
+-- "An accepted write to port 0C also enables the watchdog, one to port 10C disables it"
+abbrev pub watched : Written → Bool → Written
+watched written enabled =
+    cond (eqb (written .refusal) accepted) (done (withWatchdog (written .machine) enabled)) written
+
+-- the refusals in their order: 1 a length, 3 the port, then the port's own 4 or 6
+abbrev pub writePort : Machine → List ℕ → List ℕ → ℕ → ℕ → WrittenPort
+writePort m shadow nvm port code =
+    cond (lengthsNvm (length shadow) (length nvm))
+    (cond (eqb port 0x04) (writtenPort (writeDc011 m code) shadow nvm)
+    (cond (eqb port 0x0A) (writeDiagnostic m shadow nvm code)
+    (cond (eqb port 0x0C) (writtenPort (watched (writeDc012 m code) true) shadow nvm)
+    (cond (eqb port 0x10C) (writtenPort (watched (writeDc012 m code) false) shadow nvm)
+    (writtenPort (refused portRefused m) shadow nvm)))))
+    (writtenPort (refused lengthRefused m) shadow nvm)

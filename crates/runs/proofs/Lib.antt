@@ -1,0 +1,3 @@
+pub mod NoSecond
+pub mod Z80
+pub mod Shadow

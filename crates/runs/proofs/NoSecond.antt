@@ -1,0 +1,68 @@
+-- "That no second outcome meets it is shown": the promise of each call is one equation of its outcome, the answer and every
+-- memory lent for change, with a definition of what the call was given. So two outcomes that meet it are one.
+-- `Post` is the promise as the check reads it off the source: κs are the lifetimes, a the arguments, r the answer and s what
+-- was lent as the call returns.
+use mathlib.Core.Path.{_≡_, sym, _∙_}
+use denote.Ref.{now}
+use Rattle.machine.proofs.Machine.power_up.Reads as power-up
+use Rattle.machine.proofs.Machine.vertical_tick.Reads as vertical-tick
+use Rattle.machine.proofs.Machine.columns.Reads as columns
+use Rattle.machine.proofs.Machine.blanked.Reads as blanked
+use Rattle.machine.proofs.Machine.graphics.Reads as graphics
+use Rattle.memories.specs.View8088.{stored8088}
+use Rattle.memories.specs.ViewZ80.{storedZ80}
+use Rattle.memories.proofs.view8088.read_8088.Reads as read-8088
+use Rattle.memories.proofs.view8088.store_8088.Reads as store-8088
+use Rattle.memories.proofs.viewz80.read_z80.Reads as read-z80
+use Rattle.memories.proofs.viewz80.store_z80.Reads as store-z80
+use Rattle.shadow.specs.Shadow.{writtenShadow}
+use Rattle.shadow.proofs.read_shadow.Reads as read-shadow
+use Rattle.shadow.proofs.write_shadow.Reads as write-shadow
+use Rattle.ports.specs.Written.{writtenPort}
+use Rattle.ports.proofs.write_port.Reads as write-port
+
+pub no-second : {A : Type 0} {promised one other : A} → one ≡ promised → other ≡ promised → one ≡ other
+no-second p q = p ∙ sym q
+
+-- the outcome that a promise fixes is the only one that meets it
+abbrev pub Once :
+    {K : Type 0} {A R S : K → Type 0} {O : Type 0}
+    → ((κs : K) → A κs → R κs → S κs → Type 0) → ((κs : K) → R κs → S κs → O) → Type 0
+Once {K = K} {A = A} {R = R} {S = S} post outcome =
+    (κs : K) (a : A κs) (r r′ : R κs) (s s′ : S κs) → post κs a r s → post κs a r′ s′ → outcome κs r s ≡ outcome κs r′ s′
+
+pub power-up-once : Once power-up.Post (λ κs r s. r)
+power-up-once κs a r r′ s s′ = no-second
+
+pub vertical-tick-once : Once vertical-tick.Post (λ κs r s. r)
+vertical-tick-once κs a r r′ s s′ = no-second
+
+pub columns-once : Once columns.Post (λ κs r s. r)
+columns-once κs a r r′ s s′ = no-second
+
+pub blanked-once : Once blanked.Post (λ κs r s. r)
+blanked-once κs a r r′ s s′ = no-second
+
+pub graphics-once : Once graphics.Post (λ κs r s. r)
+graphics-once κs a r r′ s s′ = no-second
+
+pub read-8088-once : Once read-8088.Post (λ κs r s. r)
+read-8088-once κs a r r′ s s′ = no-second
+
+pub store-8088-once : Once store-8088.Post (λ κs r s. stored8088 r (now (s .0)) (now (s .1 .0)) (now (s .1 .1 .0)))
+store-8088-once κs a r r′ s s′ = no-second
+
+pub read-z80-once : Once read-z80.Post (λ κs r s. r)
+read-z80-once κs a r r′ s s′ = no-second
+
+pub store-z80-once : Once store-z80.Post (λ κs r s. storedZ80 r (now (s .0)) (now (s .1 .0)))
+store-z80-once κs a r r′ s s′ = no-second
+
+pub read-shadow-once : Once read-shadow.Post (λ κs r s. r)
+read-shadow-once κs a r r′ s s′ = no-second
+
+pub write-shadow-once : Once write-shadow.Post (λ κs r s. writtenShadow r (now (s .0)))
+write-shadow-once κs a r r′ s s′ = no-second
+
+pub write-port-once : Once write-port.Post (λ κs r s. writtenPort r (now (s .1 .0)) (now (s .1 .1 .0)))
+write-port-once κs a r r′ s s′ = no-second

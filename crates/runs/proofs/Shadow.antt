@@ -1,0 +1,48 @@
+-- What changes the shadow, and what the copies move: the statements of specs/Shadow.antt.
+use Prim.Native.Nat.{ℕ}
+use mathlib.Core.Path.{_≡_, refl}
+use mathlib.Core.List.{List}
+use mathlib.Core.Bool.{Bool, true, false, cond, _&&_, and-false, true≢false}
+use lib.ListN.{length}
+use lib.Dec.{eqb}
+use Rattle.machine.specs.declared.Machine.{Machine}
+use Rattle.ports.specs.Written.{WrittenPort}
+use Rattle.ports.specs.Diagnostic.{rises, writeDiagnostic}
+use Rattle.ports.specs.Ports.{lengthsNvm}
+use Rattle.runs.specs.World.{World, Call, Read8088, Store8088, ReadZ80, StoreZ80, ReadShadow, WriteShadow, WritePort, VerticalTick, after}
+use Rattle.runs.specs.Shadow.{writesOrRecalls, NothingElse, MovesAll}
+
+-- port 0A leaves the shadow where bit 7 does not rise
+not-recalled :
+    (m : Machine) (shadow nvm : List ℕ) (code : ℕ) → rises 7 (m .held) code ≡ false
+    → writeDiagnostic m shadow nvm code .shadow ≡ shadow
+not-recalled m shadow nvm code h = rw (h, and-false)
+
+-- a choice of two outcomes leaves what each of them leaves
+either :
+    {shadow : List ℕ} (b : Bool) (x y : WrittenPort) → (b ≡ true → x .shadow ≡ shadow) → (b ≡ false → y .shadow ≡ shadow)
+    → cond b x y .shadow ≡ shadow
+either true x y f g = f refl
+either false x y f g = g refl
+
+pub nothing-else : NothingElse
+nothing-else (WritePort port code) w h =
+    either (lengthsNvm (length (w .shadow)) (length (w .nvm))) _ _
+    (λ _. either (eqb port 0x04) _ _ (λ _. refl)
+    (λ _. either (eqb port 0x0A) _ _
+    (λ at. not-recalled (w .machine) (w .shadow) (w .nvm) code (rw at at h))
+    (λ _. either (eqb port 0x0C) _ _ (λ _. refl) (λ _. either (eqb port 0x10C) _ _ (λ _. refl) (λ _. refl)))))
+    (λ _. refl)
+nothing-else (WriteShadow place value) w h = absurd (true≢false h)
+nothing-else (Read8088 address) w h = refl
+nothing-else (Store8088 address byte) w h = refl
+nothing-else (ReadZ80 address) w h = refl
+nothing-else (StoreZ80 address byte) w h = refl
+nothing-else (ReadShadow place) w h = refl
+nothing-else VerticalTick w h = refl
+
+pub moves-all : MovesAll
+moves-all w code lent = (
+  λ saves recalls. (rw (lent, saves, recalls), rw (lent, saves, recalls)),
+  λ saves recalls. (rw (lent, saves, recalls), rw (lent, saves)),
+)

@@ -1,0 +1,3 @@
+pub mod World
+pub mod Z80
+pub mod Shadow

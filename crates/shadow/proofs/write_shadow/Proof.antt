@@ -1,0 +1,24 @@
+use borrow.Author.Tests.{eq-eqb, ne-eqb, le-leb, lt-leb}
+use borrow.Author.Needs.{needs}
+use Rattle.shadow.proofs.write_shadow.Statement.{statement}
+use Rattle.shadow.proofs.write_shadow.Tie as tie
+use Rattle.shadow.proofs.write_shadow.Reads as reads
+use Rattle.shadow.proofs.write_shadow.Lts as lts
+
+returns : tie.Need-returns
+returns c = rw (ne-eqb _ _ (c .if1 .taken))
+
+returns-2 : tie.Need-returns-2
+returns-2 c = rw (eq-eqb _ _ (c .before .if1 .left), lt-leb _ _ (c .if2 .taken))
+
+slice-write-shadow : tie.Need-slice-write-shadow
+slice-write-shadow c = search needs
+
+same-length : tie.Need-same-length
+same-length c = search needs
+
+returns-3 : tie.Need-returns-3
+returns-3 c = rw (eq-eqb _ _ (c .before .if1 .left), le-leb _ _ (c .if2 .left))
+
+pub write-shadow-spec : {M : Type 1} → statement M
+write-shadow-spec = tie.close (tie.spec returns returns-2 slice-write-shadow same-length returns-3)
