@@ -5,7 +5,7 @@ use mathlib.Core.Bool.{Bool, true, false, cond}
 use lib.ListN.{replicate}
 use Rattle.lent.specs.Lengths.{shadowBytes, nvmBytes}
 use Rattle.machine.specs.declared.Machine.{Machine}
-use Rattle.ports.specs.Written.{WrittenPort}
+use Rattle.diagnostic.specs.Diagnostic.{WrittenPort}
 use Rattle.ports.specs.Ports.{writePort}
 use Rattle.cases.specs.Said.{differ}
 

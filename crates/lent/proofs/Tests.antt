@@ -1,10 +1,18 @@
--- What a caller learns from `if !test(..) { return .. }`, where the answer of `test` is a definition's.
+-- What a caller learns from `if !test(..) { return .. }`, where the answer of `test` is a definition's, and from two numbers
+-- that are tested to be two others.
+use Prim.Native.Nat.{ℕ}
 use mathlib.Core.Path.{_≡_, sym, _∙_}
-use mathlib.Core.Bool.{Bool, true, false, not}
-use borrow.Author.Tests.{not-true, not-false}
+use mathlib.Core.Bool.{Bool, true, false, not, _&&_, and-eq-true-iff}
+use lib.Dec.{eqb}
+use borrow.Author.Tests.{not-true, not-false, eqb-true}
 
 pub held : {answer test : Bool} → answer ≡ test → not answer ≡ false → test ≡ true
 held {answer} e h = sym e ∙ not-false answer h
 
 pub failed : {answer test : Bool} → answer ≡ test → not answer ≡ true → test ≡ false
 failed {answer} e h = sym e ∙ not-true answer h
+
+pub both-equal : (a x b y : ℕ) → eqb a x && eqb b y ≡ true → (a ≡ x) × (b ≡ y)
+both-equal a x b y e =
+    let both = and-eq-true-iff (eqb a x) (eqb b y) .0 e in
+    (eqb-true a x (both .0), eqb-true b y (both .1))

@@ -1,3 +1,4 @@
 pub mod Fields
 pub mod Power
 pub mod Settings
+pub mod Written

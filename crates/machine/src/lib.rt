@@ -24,6 +24,13 @@ pub struct Machine {
     pub held: u8,
 }
 
+// The answer of a write to a port: the machine afterwards, which is the machine before where the
+// write is refused.
+pub struct Written {
+    pub refusal: u8,
+    pub machine: Machine,
+}
+
 impl Machine {
     pub fn power_up() -> Machine
         ensures { λ r. ⌜ r ≡ powerUp ⌝ }

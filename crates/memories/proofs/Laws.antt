@@ -6,6 +6,7 @@ use mathlib.Core.Bool.{Bool, true, false, cond, _&&_, and-false, and-eq-true-iff
 use native.Mathlib.Omega.{arith}
 use borrow.Author.Tests.{le-leb, lt-leb, leb-true, leb-false, eqb-true}
 use lib.Dec.{leb, eqb}
+use Rattle.lent.proofs.Tests.{both-equal}
 use Rattle.lent.specs.Lengths.{sharedBytes, screenBytes, attributeBytes, privateBytes}
 use Rattle.memories.specs.View8088.{within, seen8088, lengths8088}
 use Rattle.memories.specs.ViewZ80.{lengthsZ80, isPrivate}
@@ -58,16 +59,13 @@ pub lent8088 :
     {shared screen attribute : ℕ} → lengths8088 shared screen attribute ≡ true
     → (shared ≡ sharedBytes) × ((screen ≡ screenBytes) × (attribute ≡ attributeBytes))
 unfolding lengths8088
-lent8088 e =
-    let outer = and-eq-true-iff _ _ .0 e in
-    let inner = and-eq-true-iff _ _ .0 (outer .1) in
-    (eqb-true _ _ (outer .0), (eqb-true _ _ (inner .0), eqb-true _ _ (inner .1)))
+lent8088 {shared} {screen} {attribute} e =
+    let parts = and-eq-true-iff (eqb shared sharedBytes) _ .0 e in
+    (eqb-true shared sharedBytes (parts .0), both-equal screen screenBytes attribute attributeBytes (parts .1))
 
 pub lentZ80 : {private shared : ℕ} → lengthsZ80 private shared ≡ true → (private ≡ privateBytes) × (shared ≡ sharedBytes)
 unfolding lengthsZ80
-lentZ80 e =
-    let both = and-eq-true-iff _ _ .0 e in
-    (eqb-true _ _ (both .0), eqb-true _ _ (both .1))
+lentZ80 {private} {shared} = both-equal private privateBytes shared sharedBytes
 
 pub below0800 : (a : ℕ) → a < privateBytes → isPrivate a ≡ true
 unfolding isPrivate

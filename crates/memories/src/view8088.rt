@@ -17,7 +17,7 @@ pub enum Seen {
     Nowhere,
 }
 
-pub fn seen_8088(address: u32) -> Seen
+fn seen_8088(address: u32) -> Seen
     ensures { λ r. ⌜ r ≡ seen8088 address ⌝ }
 {
     let at = address as usize;
@@ -77,18 +77,10 @@ pub fn store_8088(
         return lent::LENGTH;
     }
     match seen_8088(address) {
-        Seen::Shared(place) => {
-            shared[place] = byte;
-            lent::ACCEPTED
-        }
-        Seen::Screen(place) => {
-            screen[place] = byte;
-            lent::ACCEPTED
-        }
-        Seen::Attribute(place) => {
-            attribute[place] = byte;
-            lent::ACCEPTED
-        }
-        Seen::Nowhere => lent::ADDRESS,
+        Seen::Shared(place) => shared[place] = byte,
+        Seen::Screen(place) => screen[place] = byte,
+        Seen::Attribute(place) => attribute[place] = byte,
+        Seen::Nowhere => return lent::ADDRESS,
     }
+    lent::ACCEPTED
 }

@@ -4,6 +4,9 @@ ghost use mathlib.Core.Path.{_≡_};
 ghost use Rattle.memories.specs.ViewZ80.{lengthsZ80, readZ80, storeZ80, storedZ80};
 use lent::ByteRead;
 
+// The first address at which the Z80 sees shared memory.
+const SHARED_FROM: usize = 0x0800;
+
 fn lengths_z80(private: usize, shared: usize) -> bool
     ensures { λ r. ⌜ r ≡ lengthsZ80 private shared ⌝ }
 {
@@ -20,7 +23,7 @@ pub fn read_z80(private: &[u8], shared: &[u8], address: u16) -> ByteRead
         return lent::read_refused(lent::LENGTH);
     }
     let at = address as usize;
-    if at < lent::PRIVATE_BYTES {
+    if at < SHARED_FROM {
         lent::byte_read(private[at])
     } else {
         lent::byte_read(shared[at])
@@ -36,7 +39,7 @@ pub fn store_z80(private: &mut [u8], shared: &mut [u8], address: u16, byte: u8) 
         return lent::LENGTH;
     }
     let at = address as usize;
-    if at < lent::PRIVATE_BYTES {
+    if at < SHARED_FROM {
         private[at] = byte;
     } else {
         shared[at] = byte;

@@ -1,5 +1,1 @@
-pub mod Written
-pub mod Dc011
-pub mod Dc012
-pub mod Diagnostic
 pub mod Ports

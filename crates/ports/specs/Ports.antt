@@ -8,11 +8,11 @@ use Rattle.lent.specs.Lengths.{shadowBytes, nvmBytes}
 use Rattle.lent.specs.Refusals.{accepted, lengthRefused, portRefused}
 use Rattle.machine.specs.declared.Machine.{Machine}
 use Rattle.machine.specs.Fields.{withWatchdog}
-use Rattle.ports.specs.declared.Written.{Written}
-use Rattle.ports.specs.Written.{done, refused, WrittenPort, writtenPort}
-use Rattle.ports.specs.Dc011.{writeDc011}
-use Rattle.ports.specs.Dc012.{writeDc012}
-use Rattle.ports.specs.Diagnostic.{writeDiagnostic}
+use Rattle.machine.specs.declared.Written.{Written}
+use Rattle.machine.specs.Written.{done, refused}
+use Rattle.dc011.specs.Dc011.{writeDc011}
+use Rattle.dc012.specs.Dc012.{writeDc012}
+use Rattle.diagnostic.specs.Diagnostic.{WrittenPort, writtenPort, writeDiagnostic}
 
 unfoldable pub lengthsNvm : ℕ → ℕ → Bool
 lengthsNvm shadow nvm = eqb shadow shadowBytes && eqb nvm nvmBytes

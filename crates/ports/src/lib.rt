@@ -1,23 +1,12 @@
 // The write ports: 04 (DC011), 0A (diagnostic write), 0C and 10C (DC012). Document 01, "Ports".
-mod copies;
-mod dc011;
-mod dc012;
-mod diagnostic;
-
 ghost use mathlib.Core.Path.{_≡_};
+ghost use Rattle.diagnostic.specs.Diagnostic.{writtenPort};
 ghost use Rattle.ports.specs.Ports.{lengthsNvm, watched, writePort};
-ghost use Rattle.ports.specs.Written.{writtenPort};
 use dc011::write_dc011;
 use dc012::write_dc012;
 use diagnostic::write_diagnostic;
 use machine::Machine;
-
-// The answer of a port write: the machine afterwards, which is the machine before where the write is
-// refused.
-pub struct Written {
-    pub refusal: u8,
-    pub machine: Machine,
-}
+use machine::Written;
 
 // Writes a code to a port. The shadow and the NVM are lent for the copies that port 0A starts.
 pub fn write_port(

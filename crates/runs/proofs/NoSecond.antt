@@ -18,7 +18,7 @@ use Rattle.memories.proofs.viewz80.store_z80.Reads as store-z80
 use Rattle.shadow.specs.Shadow.{writtenShadow}
 use Rattle.shadow.proofs.read_shadow.Reads as read-shadow
 use Rattle.shadow.proofs.write_shadow.Reads as write-shadow
-use Rattle.ports.specs.Written.{writtenPort}
+use Rattle.diagnostic.specs.Diagnostic.{writtenPort}
 use Rattle.ports.proofs.write_port.Reads as write-port
 
 pub no-second : {A : Type 0} {promised one other : A} → one ≡ promised → other ≡ promised → one ≡ other

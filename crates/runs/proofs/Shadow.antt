@@ -6,8 +6,8 @@ use mathlib.Core.Bool.{Bool, true, false, cond, _&&_, and-false, true≢false}
 use lib.ListN.{length}
 use lib.Dec.{eqb}
 use Rattle.machine.specs.declared.Machine.{Machine}
-use Rattle.ports.specs.Written.{WrittenPort}
-use Rattle.ports.specs.Diagnostic.{rises, writeDiagnostic}
+use Rattle.diagnostic.specs.Diagnostic.{WrittenPort}
+use Rattle.diagnostic.specs.Diagnostic.{rises, writeDiagnostic}
 use Rattle.ports.specs.Ports.{lengthsNvm}
 use Rattle.runs.specs.World.{World, Call, Read8088, Store8088, ReadZ80, StoreZ80, ReadShadow, WriteShadow, WritePort, VerticalTick, after}
 use Rattle.runs.specs.Shadow.{writesOrRecalls, NothingElse, MovesAll}

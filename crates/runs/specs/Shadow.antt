@@ -4,7 +4,7 @@ use mathlib.Core.Path.{_≡_}
 use mathlib.Core.Bool.{Bool, true, false, _&&_}
 use lib.ListN.{length}
 use lib.Dec.{eqb}
-use Rattle.ports.specs.Diagnostic.{rises}
+use Rattle.diagnostic.specs.Diagnostic.{rises}
 use Rattle.ports.specs.Ports.{lengthsNvm}
 use Rattle.runs.specs.World.{World, Call, Read8088, Store8088, ReadZ80, StoreZ80, ReadShadow, WriteShadow, WritePort, VerticalTick, after}
 

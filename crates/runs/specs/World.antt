@@ -9,7 +9,7 @@ use Rattle.machine.specs.Power.{verticalTick}
 use Rattle.memories.specs.View8088.{read8088, store8088, Stored8088}
 use Rattle.memories.specs.ViewZ80.{readZ80, storeZ80, StoredZ80}
 use Rattle.shadow.specs.Shadow.{readShadow, writeShadow, WrittenShadow}
-use Rattle.ports.specs.Written.{WrittenPort}
+use Rattle.diagnostic.specs.Diagnostic.{WrittenPort}
 use Rattle.ports.specs.Ports.{writePort}
 
 -- the machine and the memories that a user keeps and lends

@@ -1,10 +1,7 @@
 use borrow.Author.Tests.{eq-eqb, ne-eqb}
 use Rattle.ports.specs.Ports.{lengthsNvm}
-use borrow.Author.Needs.{needs}
 use Rattle.ports.proofs.lengths_nvm.Statement.{statement}
 use Rattle.ports.proofs.lengths_nvm.Tie as tie
-use Rattle.ports.proofs.lengths_nvm.Reads as reads
-use Rattle.ports.proofs.lengths_nvm.Lts as lts
 
 returns : tie.Need-returns
 unfolding lengthsNvm

@@ -1,9 +1,6 @@
 use borrow.Author.Tests.{eq-eqb, ne-eqb}
-use borrow.Author.Needs.{needs}
 use Rattle.ports.proofs.watched.Statement.{statement}
 use Rattle.ports.proofs.watched.Tie as tie
-use Rattle.ports.proofs.watched.Reads as reads
-use Rattle.ports.proofs.watched.Lts as lts
 
 returns : tie.Need-returns
 returns c = rw (ne-eqb _ _ (c .if1 .taken))

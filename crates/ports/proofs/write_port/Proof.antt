@@ -1,17 +1,10 @@
 use native.Mathlib.Omega.{arith}
 use borrow.Author.Tests.{ne-eqb}
+use borrow.Author.Needs.{needs}
 use Rattle.lent.proofs.Tests.{held, failed}
 use Rattle.ports.proofs.Laws.{lentNvm}
-use borrow.Author.Needs.{needs}
 use Rattle.ports.proofs.write_port.Statement.{statement}
 use Rattle.ports.proofs.write_port.Tie as tie
-use Rattle.ports.proofs.write_port.Reads as reads
-use Rattle.ports.proofs.write_port.Lts as lts
-use Rattle.ports.proofs.dc011.write_dc011.Reads as write-dc011-reads
-use Rattle.ports.proofs.dc012.write_dc012.Reads as write-dc012-reads
-use Rattle.ports.proofs.diagnostic.write_diagnostic.Reads as write-diagnostic-reads
-use Rattle.ports.proofs.lengths_nvm.Reads as lengths-nvm-reads
-use Rattle.ports.proofs.watched.Reads as watched-reads
 
 lengths-nvm-requires : tie.Need-lengths-nvm-requires
 lengths-nvm-requires c κs = search needs

@@ -2,10 +2,6 @@ use borrow.Author.Tests.{eq-eqb, ne-eqb, le-leb, lt-leb}
 use borrow.Author.Needs.{needs}
 use Rattle.shadow.proofs.read_shadow.Statement.{statement}
 use Rattle.shadow.proofs.read_shadow.Tie as tie
-use Rattle.shadow.proofs.read_shadow.Reads as reads
-use Rattle.shadow.proofs.read_shadow.Lts as lts
-use Rattle.lent.proofs.byte_read.Reads as byte-read-reads
-use Rattle.lent.proofs.read_refused.Reads as read-refused-reads
 
 read-refused-requires : tie.Need-read-refused-requires
 read-refused-requires c κs = search needs

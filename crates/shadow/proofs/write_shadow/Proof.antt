@@ -2,8 +2,6 @@ use borrow.Author.Tests.{eq-eqb, ne-eqb, le-leb, lt-leb}
 use borrow.Author.Needs.{needs}
 use Rattle.shadow.proofs.write_shadow.Statement.{statement}
 use Rattle.shadow.proofs.write_shadow.Tie as tie
-use Rattle.shadow.proofs.write_shadow.Reads as reads
-use Rattle.shadow.proofs.write_shadow.Lts as lts
 
 returns : tie.Need-returns
 returns c = rw (ne-eqb _ _ (c .if1 .taken))

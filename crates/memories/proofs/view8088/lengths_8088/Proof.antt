@@ -1,10 +1,7 @@
 use borrow.Author.Tests.{eq-eqb, ne-eqb}
 use Rattle.memories.specs.View8088.{lengths8088}
-use borrow.Author.Needs.{needs}
 use Rattle.memories.proofs.view8088.lengths_8088.Statement.{statement}
 use Rattle.memories.proofs.view8088.lengths_8088.Tie as tie
-use Rattle.memories.proofs.view8088.lengths_8088.Reads as reads
-use Rattle.memories.proofs.view8088.lengths_8088.Lts as lts
 
 returns : tie.Need-returns
 unfolding lengths8088

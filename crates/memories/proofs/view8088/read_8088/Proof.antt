@@ -1,16 +1,10 @@
 use mathlib.Core.Path.{sym, _∙_}
 use native.Mathlib.Omega.{arith}
+use borrow.Author.Needs.{needs}
 use Rattle.lent.proofs.Tests.{held, failed}
 use Rattle.memories.proofs.Laws.{lent8088, placed}
-use borrow.Author.Needs.{needs}
 use Rattle.memories.proofs.view8088.read_8088.Statement.{statement}
 use Rattle.memories.proofs.view8088.read_8088.Tie as tie
-use Rattle.memories.proofs.view8088.read_8088.Reads as reads
-use Rattle.memories.proofs.view8088.read_8088.Lts as lts
-use Rattle.lent.proofs.byte_read.Reads as byte-read-reads
-use Rattle.lent.proofs.read_refused.Reads as read-refused-reads
-use Rattle.memories.proofs.view8088.lengths_8088.Reads as lengths-8088-reads
-use Rattle.memories.proofs.view8088.seen_8088.Reads as seen-8088-reads
 
 lengths-8088-requires : tie.Need-lengths-8088-requires
 lengths-8088-requires c κs = search needs

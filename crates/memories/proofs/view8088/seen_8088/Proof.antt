@@ -1,11 +1,8 @@
 use native.Mathlib.Omega.{arith}
 use Rattle.memories.specs.View8088.{seen8088}
 use Rattle.memories.proofs.Laws.{inside, under, over}
-use borrow.Author.Needs.{needs}
 use Rattle.memories.proofs.view8088.seen_8088.Statement.{statement}
 use Rattle.memories.proofs.view8088.seen_8088.Tie as tie
-use Rattle.memories.proofs.view8088.seen_8088.Reads as reads
-use Rattle.memories.proofs.view8088.seen_8088.Lts as lts
 
 returns : tie.Need-returns
 unfolding seen8088

@@ -1,14 +1,10 @@
 use mathlib.Core.Path.{sym, _∙_}
 use native.Mathlib.Omega.{arith}
+use borrow.Author.Needs.{needs}
 use Rattle.lent.proofs.Tests.{held, failed}
 use Rattle.memories.proofs.Laws.{lent8088, placed}
-use borrow.Author.Needs.{needs}
 use Rattle.memories.proofs.view8088.store_8088.Statement.{statement}
 use Rattle.memories.proofs.view8088.store_8088.Tie as tie
-use Rattle.memories.proofs.view8088.store_8088.Reads as reads
-use Rattle.memories.proofs.view8088.store_8088.Lts as lts
-use Rattle.memories.proofs.view8088.lengths_8088.Reads as lengths-8088-reads
-use Rattle.memories.proofs.view8088.seen_8088.Reads as seen-8088-reads
 
 lengths-8088-requires : tie.Need-lengths-8088-requires
 lengths-8088-requires c κs = search needs
@@ -46,34 +42,46 @@ slice-write-attribute c =
 enum-told : tie.Need-enum-told
 enum-told c = search needs
 
-same-length : tie.Need-same-length
-same-length c = search needs
-
 returns-2 : tie.Need-returns-2
 returns-2 c =
-    let s = c .before .before .before in
-    rw (held (s .before .before .lengths-8088 .ensures) (s .before .if1 .left), sym (s .seen-8088 .ensures) ∙ c .before .place .given .1)
+    let s = c .before .before in
+    rw (
+      held (s .before .before .lengths-8088 .ensures) (s .before .if1 .left),
+      sym (s .seen-8088 .ensures) ∙ c .enum-told .given .1,
+    )
 
-same-length-2 : tie.Need-same-length-2
-same-length-2 c = search needs
+same-length : tie.Need-same-length
+same-length c = search needs
 
 returns-3 : tie.Need-returns-3
 returns-3 c =
     let s = c .before .before .before in
-    rw (held (s .before .before .lengths-8088 .ensures) (s .before .if1 .left), sym (s .seen-8088 .ensures) ∙ c .before .place2 .given .1)
+    rw (
+      held (s .before .before .lengths-8088 .ensures) (s .before .if1 .left),
+      sym (s .seen-8088 .ensures) ∙ c .before .place .given .1,
+    )
 
-same-length-3 : tie.Need-same-length-3
-same-length-3 c = search needs
+same-length-2 : tie.Need-same-length-2
+same-length-2 c = search needs
 
 returns-4 : tie.Need-returns-4
 returns-4 c =
     let s = c .before .before .before in
-    rw (held (s .before .before .lengths-8088 .ensures) (s .before .if1 .left), sym (s .seen-8088 .ensures) ∙ c .before .place3 .given .1)
+    rw (
+      held (s .before .before .lengths-8088 .ensures) (s .before .if1 .left),
+      sym (s .seen-8088 .ensures) ∙ c .before .place2 .given .1,
+    )
+
+same-length-3 : tie.Need-same-length-3
+same-length-3 c = search needs
 
 returns-5 : tie.Need-returns-5
 returns-5 c =
-    let s = c .before .before in
-    rw (held (s .before .before .lengths-8088 .ensures) (s .before .if1 .left), sym (s .seen-8088 .ensures) ∙ c .enum-told .given .1)
+    let s = c .before .before .before in
+    rw (
+      held (s .before .before .lengths-8088 .ensures) (s .before .if1 .left),
+      sym (s .seen-8088 .ensures) ∙ c .before .place3 .given .1,
+    )
 
 pub store-8088-spec : {M : Type 1} → statement M
 store-8088-spec =
@@ -89,10 +97,10 @@ store-8088-spec =
     enum-known-place-3
     slice-write-attribute
     enum-told
-    same-length
     returns-2
-    same-length-2
+    same-length
     returns-3
-    same-length-3
+    same-length-2
     returns-4
+    same-length-3
     returns-5)

@@ -1,10 +1,7 @@
 use borrow.Author.Tests.{eq-eqb, ne-eqb}
 use Rattle.memories.specs.ViewZ80.{lengthsZ80}
-use borrow.Author.Needs.{needs}
 use Rattle.memories.proofs.viewz80.lengths_z80.Statement.{statement}
 use Rattle.memories.proofs.viewz80.lengths_z80.Tie as tie
-use Rattle.memories.proofs.viewz80.lengths_z80.Reads as reads
-use Rattle.memories.proofs.viewz80.lengths_z80.Lts as lts
 
 returns : tie.Need-returns
 unfolding lengthsZ80

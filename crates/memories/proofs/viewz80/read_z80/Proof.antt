@@ -1,15 +1,10 @@
 use native.Mathlib.Omega.{arith}
+use borrow.Author.Needs.{needs}
 use Rattle.lent.proofs.Tests.{held, failed}
 use Rattle.memories.specs.ViewZ80.{seenZ80}
 use Rattle.memories.proofs.Laws.{lentZ80, below0800, from0800}
-use borrow.Author.Needs.{needs}
 use Rattle.memories.proofs.viewz80.read_z80.Statement.{statement}
 use Rattle.memories.proofs.viewz80.read_z80.Tie as tie
-use Rattle.memories.proofs.viewz80.read_z80.Reads as reads
-use Rattle.memories.proofs.viewz80.read_z80.Lts as lts
-use Rattle.lent.proofs.byte_read.Reads as byte-read-reads
-use Rattle.lent.proofs.read_refused.Reads as read-refused-reads
-use Rattle.memories.proofs.viewz80.lengths_z80.Reads as lengths-z80-reads
 
 lengths-z80-requires : tie.Need-lengths-z80-requires
 lengths-z80-requires c κs = search needs

@@ -1,0 +1,61 @@
+use native.Mathlib.Omega.{arith}
+use borrow.Author.Tests.{ne-eqb, le-leb, lt-leb}
+use borrow.Author.Needs.{needs}
+use Rattle.dc012.proofs.write_dc012.Statement.{statement}
+use Rattle.dc012.proofs.write_dc012.Tie as tie
+
+mul-machine : tie.Need-mul-machine
+mul-machine c = search needs
+
+add-machine : tie.Need-add-machine
+add-machine c = search needs
+
+mul-machine-2 : tie.Need-mul-machine-2
+mul-machine-2 c = search needs
+
+add-machine-2 : tie.Need-add-machine-2
+add-machine-2 c = search needs
+
+returns : tie.Need-returns
+returns c =
+    let code = c .before .before .before .before .args .code in
+    let none = c .before .before .match .rest in
+    rw (lt-leb code 3 (omega arith), lt-leb code 7 (omega arith), ne-eqb _ _ (none .0 .0 .0 .1), ne-eqb _ _ (none .0 .0 .1), ne-eqb _ _ (none .0 .1), ne-eqb _ _ (none .1))
+
+returns-2 : tie.Need-returns-2
+returns-2 c = rw (c .before .match .keys1)
+
+returns-3 : tie.Need-returns-3
+returns-3 c = rw (c .match .keys2)
+
+returns-4 : tie.Need-returns-4
+returns-4 c = rw (c .match .keys3)
+
+returns-5 : tie.Need-returns-5
+returns-5 c = rw (c .match .keys4)
+
+returns-6 : tie.Need-returns-6
+returns-6 c =
+    let code = c .before .before .before .args .code in
+    rw (le-leb code 3 (omega arith))
+
+returns-7 : tie.Need-returns-7
+returns-7 c =
+    let code = c .before .before .before .before .args .code in
+    rw (lt-leb code 3 (omega arith), le-leb code 7 (omega arith))
+
+pub write-dc012-spec : {M : Type 1} → statement M
+write-dc012-spec =
+    tie.close
+    (tie.spec
+    mul-machine
+    add-machine
+    mul-machine-2
+    add-machine-2
+    returns
+    returns-2
+    returns-3
+    returns-4
+    returns-5
+    returns-6
+    returns-7)

@@ -1,0 +1,57 @@
+use mathlib.Core.Path.{sym, _∙_}
+use borrow.Author.Needs.{needs}
+use Rattle.diagnostic.proofs.write_diagnostic.Statement.{statement}
+use Rattle.diagnostic.proofs.write_diagnostic.Tie as tie
+
+rises-requires : tie.Need-rises-requires
+rises-requires c κs = search needs
+
+rises-requires-2 : tie.Need-rises-requires-2
+rises-requires-2 c κs = search needs
+
+returns : tie.Need-returns
+returns c = rw (sym (c .before .before .before .rises .ensures) ∙ c .before .if1 .taken, sym (c .before .before .rises2 .ensures) ∙ c .if2 .taken)
+
+copy-requires : tie.Need-copy-requires
+copy-requires c κs = search needs
+
+copy-requires-2 : tie.Need-copy-requires-2
+copy-requires-2 c κs = search needs
+
+same-length : tie.Need-same-length
+same-length c = search needs
+
+same-length-2 : tie.Need-same-length-2
+same-length-2 c = search needs
+
+returns-2 : tie.Need-returns-2
+returns-2 c = rw (sym (c .before .before .before .before .before .before .before .before .rises .ensures) ∙ c .before .before .before .before .before .before .if1 .taken, sym (c .before .before .before .before .before .before .before .rises2 .ensures) ∙ c .before .before .before .before .before .if2 .left, c .before .before .copy .ensures)
+
+same-length-3 : tie.Need-same-length-3
+same-length-3 c = search needs
+
+same-length-4 : tie.Need-same-length-4
+same-length-4 c = search needs
+
+returns-3 : tie.Need-returns-3
+returns-3 c = rw (sym (c .before .before .before .before .before .before .before .before .rises .ensures) ∙ c .before .before .before .before .before .before .if1 .left, sym (c .before .before .before .before .before .before .before .rises2 .ensures) ∙ c .before .before .before .before .before .if3 .taken, c .before .before .copy2 .ensures)
+
+returns-4 : tie.Need-returns-4
+returns-4 c = rw (sym (c .before .before .before .rises .ensures) ∙ c .before .if1 .left, sym (c .before .before .rises2 .ensures) ∙ c .if3 .left)
+
+pub write-diagnostic-spec : {M : Type 1} → statement M
+write-diagnostic-spec =
+    tie.close
+    (tie.spec
+    rises-requires
+    rises-requires-2
+    returns
+    copy-requires
+    copy-requires-2
+    same-length
+    same-length-2
+    returns-2
+    same-length-3
+    same-length-4
+    returns-3
+    returns-4)
