@@ -1,5 +1,5 @@
 -- Document 01, "Ports", 0C and 10C (DC012).
-use Prim.Native.Nat.{ℕ, _+_, _-_, _*_, _/_, _%_}
+use Prim.Native.Nat.{ℕ, _+_, _-_, _*_, _/_, _%_, _≤_, _<_}
 use mathlib.Core.Bool.{true, false, not, cond}
 use lib.Dec.{eqb, leb}
 use Rattle.lent.specs.Refusals.{codeRefused}
@@ -26,3 +26,7 @@ writeDc012 m code =
     (cond (eqb code 0x09) (done (withInterrupt m false))
     (cond (eqb code 0x0A) (done (withReverse m true))
     (cond (eqb code 0x0B) (done (withReverse m false)) (refused codeRefused m))))))
+
+-- "and a load leaves it under 16": a statement, proved in proofs/Dc012.antt
+abbrev pub LoadLeavesUnder16 : Type 0
+LoadLeavesUnder16 = (m : Machine) (code : ℕ) → code ≤ 0x07 → writeDc012 m code .machine .latch < 16

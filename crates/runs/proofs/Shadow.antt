@@ -10,6 +10,7 @@ use Rattle.diagnostic.specs.Diagnostic.{WrittenPort}
 use Rattle.diagnostic.specs.Diagnostic.{rises, writeDiagnostic}
 use Rattle.ports.specs.Ports.{lengthsNvm}
 use Rattle.runs.specs.World.{World, Call, Read8088, Store8088, ReadZ80, StoreZ80, ReadShadow, WriteShadow, WritePort, VerticalTick, after}
+use Rattle.runs.proofs.Choice.{either}
 use Rattle.runs.specs.Shadow.{writesOrRecalls, NothingElse, MovesAll}
 
 -- port 0A leaves the shadow where bit 7 does not rise
@@ -18,21 +19,16 @@ not-recalled :
     → writeDiagnostic m shadow nvm code .shadow ≡ shadow
 not-recalled m shadow nvm code h = rw (h, and-false)
 
--- a choice of two outcomes leaves what each of them leaves
-either :
-    {shadow : List ℕ} (b : Bool) (x y : WrittenPort) → (b ≡ true → x .shadow ≡ shadow) → (b ≡ false → y .shadow ≡ shadow)
-    → cond b x y .shadow ≡ shadow
-either true x y f g = f refl
-either false x y f g = g refl
-
 pub nothing-else : NothingElse
 nothing-else (WritePort port code) w h =
-    either (lengthsNvm (length (w .shadow)) (length (w .nvm))) _ _
-    (λ _. either (eqb port 0x04) _ _ (λ _. refl)
-    (λ _. either (eqb port 0x0A) _ _
-    (λ at. not-recalled (w .machine) (w .shadow) (w .nvm) code (rw at at h))
-    (λ _. either (eqb port 0x0C) _ _ (λ _. refl) (λ _. either (eqb port 0x10C) _ _ (λ _. refl) (λ _. refl)))))
+    either Keeps (lengthsNvm (length (w .shadow)) (length (w .nvm))) _ _
+    (λ _. either Keeps (eqb port 0x04) _ _ (λ _. refl)
+    (λ _. either Keeps (eqb port 0x0A) _ _ (λ at. not-recalled (w .machine) (w .shadow) (w .nvm) code (rw at at h))
+    (λ _. either Keeps (eqb port 0x0C) _ _ (λ _. refl) (λ _. either Keeps (eqb port 0x10C) _ _ (λ _. refl) (λ _. refl)))))
     (λ _. refl)
+  where
+    Keeps : WrittenPort → Type 0
+    Keeps left = left .shadow ≡ w .shadow
 nothing-else (WriteShadow place value) w h = absurd (true≢false h)
 nothing-else (Read8088 address) w h = refl
 nothing-else (Store8088 address byte) w h = refl

@@ -4,8 +4,8 @@ use mathlib.Core.Path.{_≡_, refl, sym, ap, _∙_}
 use mathlib.Core.List.{List, [], _∷_}
 use mathlib.Core.Bool.{Bool, true, false, not, cond, _||_, false≢true}
 use native.Mathlib.Omega.{arith}
-use lib.ListN.{length, getD, set, drop, length-set}
-use lib.Seq.{getD-set-same, getD-set-other, getD-drop, drop-set-add, drop-set-lt}
+use lib.ListN.{length, getD, set, take, drop, length-set}
+use lib.Seq.{getD-set-same, getD-set-other, getD-drop, take-set-le, drop-set-add, drop-set-lt}
 use lib.Dec.{eqb, ltb}
 use borrow.Author.Tests.{eqb-true, eqb-false, leb-true, leb-false, ltb-true, ltb-false}
 use Rattle.lent.specs.Lengths.{sharedBytes, privateBytes}
@@ -16,7 +16,8 @@ use Rattle.memories.specs.declared.view8088.Seen.the-variants.{Shared, Screen, 
 use Rattle.memories.specs.ViewZ80.{isPrivate, lengthsZ80, seenZ80, StoredZ80, storeZ80, storedZ80}
 use Rattle.memories.proofs.Laws.{lentZ80, placed}
 use Rattle.runs.specs.World.{World, Call, Read8088, Store8088, ReadZ80, StoreZ80, ReadShadow, WriteShadow, WritePort, VerticalTick, left8088, leftZ80, after, answer}
-use Rattle.runs.specs.Z80.{OnlyAt, ChangesOneByte, Agree, isZ80, unseenByZ80, Turn, Both, First, Second, first, second, turned, heard, ended, answers, SameAnswers}
+use Rattle.runs.proofs.Choice.{either}
+use Rattle.runs.specs.Z80.{OnlyAt, ChangesOneByte, OnlyItsOwn, Agree, isZ80, unseenByZ80, Turn, Both, First, Second, first, second, turned, heard, ended, answers, SameAnswers}
 
 -- an address that is not private is 0800 or more
 shared-from : (a : ℕ) → isPrivate a ≡ false → 0x0800 ≤ a
@@ -50,6 +51,32 @@ changes-one-byte private shared address byte lent fits = rw (lent) (go (isPrivat
         × OnlyAt (not b) address byte shared (cond b (storedZ80 0 (set private address byte) shared) (storedZ80 0 private (set shared address byte)) .shared)
     go true e = (stored private address byte (omega (arith, lengths, private-below address e)), kept shared address byte)
     go false e = (kept private address byte, stored shared address byte (omega (arith, lengths, fits)))
+
+pub only-its-own : OnlyItsOwn
+only-its-own (StoreZ80 a b) w h =
+    record {
+      machine = refl;
+      below0800 =
+          either Below (lengthsZ80 (length (w .private)) (length (w .shared))) _ _
+          (λ _. either Below (isPrivate a) _ _ (λ _. refl)
+          (λ e. take-set-le 0x0800 (w .shared) a b (shared-from a e)))
+          (λ _. refl);
+      screen = refl;
+      attribute = refl;
+      nvm = refl;
+      shadow = refl;
+    }
+  where
+    Below : StoredZ80 → Type 0
+    Below left = take 0x0800 (left .shared) ≡ take 0x0800 (w .shared)
+only-its-own (ReadZ80 a) w h =
+    record { machine = refl; below0800 = refl; screen = refl; attribute = refl; nvm = refl; shadow = refl }
+only-its-own (Read8088 a) w h = absurd (false≢true h)
+only-its-own (Store8088 a b) w h = absurd (false≢true h)
+only-its-own (ReadShadow p) w h = absurd (false≢true h)
+only-its-own (WriteShadow p b) w h = absurd (false≢true h)
+only-its-own (WritePort p k) w h = absurd (false≢true h)
+only-its-own VerticalTick w h = absurd (false≢true h)
 
 -- what lies from 0800 up is the same byte at each such address
 same-from :

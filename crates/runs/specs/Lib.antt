@@ -1,3 +1,4 @@
 pub mod World
+pub mod Refused
 pub mod Z80
 pub mod Shadow

@@ -3,7 +3,7 @@ use Prim.Native.Nat.{ℕ, _<_}
 use mathlib.Core.Path.{_≡_}
 use mathlib.Core.List.{List, [], _∷_}
 use mathlib.Core.Bool.{Bool, true, false, not, cond, _&&_, _||_}
-use lib.ListN.{length, getD, drop}
+use lib.ListN.{length, getD, take, drop}
 use lib.Dec.{eqb, ltb}
 use Rattle.lent.specs.Lengths.{sharedBytes, privateBytes}
 use Rattle.lent.specs.declared.ByteRead.{ByteRead}
@@ -39,6 +39,19 @@ isZ80 (ReadShadow place) = false
 isZ80 (WriteShadow place value) = false
 isZ80 (WritePort port code) = false
 isZ80 VerticalTick = false
+
+-- "The Z80 reads and writes only its own 2 KB and the 62 KB that it shares": of the world a Z80 call leaves all but private
+-- memory and shared memory from 0800 up
+pub record LeavesTheRest (w v : World) : Type 0 where
+  pub machine : v .machine ≡ w .machine
+  pub below0800 : take 0x0800 (v .shared) ≡ take 0x0800 (w .shared)
+  pub screen : v .screen ≡ w .screen
+  pub attribute : v .attribute ≡ w .attribute
+  pub nvm : v .nvm ≡ w .nvm
+  pub shadow : v .shadow ≡ w .shadow
+
+abbrev pub OnlyItsOwn : Type 0
+OnlyItsOwn = (call : Call) (w : World) → isZ80 call ≡ true → LeavesTheRest w (after call w)
 
 -- a call that is no Z80 call and stores nothing at 0800 to FFFF
 abbrev pub unseenByZ80 : Call → Bool
