@@ -1,6 +1,7 @@
 # make: prove every crate, build and run the programs, and show what they say.
 # make test: the gate.
-.PHONY: all test clean
+# make expected: the output that the programs must write, made again by the model in host/.
+.PHONY: all test expected clean
 
 all:
 	rt check
@@ -10,5 +11,9 @@ all:
 test:
 	.ci/run
 
+expected:
+	cargo run -q --release --manifest-path host/Cargo.toml --bin expected_calls > crates/calls/stdout
+	cargo run -q --release --manifest-path host/Cargo.toml --bin expected_long_run > crates/long_run/stdout
+
 clean:
-	rm -rf target
+	rm -rf target host/target

@@ -1,12 +1,14 @@
 // Writes to the ports, one after the other, with the machine that each leaves.
 use crate::say;
 ghost use Prim.Native.Nat.{_+_, _<_};
+use lent::NVM_BYTES;
+use lent::SHADOW_BYTES;
 use machine::Machine;
 
 // A write whose shadow and NVM do not matter.
 fn write(m: Machine, port: u16, code: u8) -> Machine {
-    let mut shadow = [0u8; 256];
-    let mut nvm = [0u8; 256];
+    let mut shadow = [0u8; SHADOW_BYTES];
+    let mut nvm = [0u8; NVM_BYTES];
     let written = ports::write_port(m, &mut shadow, &mut nvm, port, code);
     say::written(port, code, written);
     written.machine
@@ -47,7 +49,7 @@ pub fn dc012() {
     write_all(m, 0x0C, b"\x0e\x0f\x80\xff");
 }
 
-fn ends(shadow: &[u8; 256], nvm: &[u8; 256]) {
+fn ends(shadow: &[u8; SHADOW_BYTES], nvm: &[u8; NVM_BYTES]) {
     say::text(b"  shadow");
     say::byte(shadow[0]);
     say::byte(shadow[255]);
@@ -57,7 +59,12 @@ fn ends(shadow: &[u8; 256], nvm: &[u8; 256]) {
     say::text(b"\n");
 }
 
-fn hold(m: Machine, shadow: &mut [u8; 256], nvm: &mut [u8; 256], code: u8) -> Machine {
+fn hold(
+    m: Machine,
+    shadow: &mut [u8; SHADOW_BYTES],
+    nvm: &mut [u8; NVM_BYTES],
+    code: u8,
+) -> Machine {
     let written = ports::write_port(m, shadow, nvm, 0x0A, code);
     say::written(0x0A, code, written);
     ends(shadow, nvm);
@@ -66,7 +73,12 @@ fn hold(m: Machine, shadow: &mut [u8; 256], nvm: &mut [u8; 256], code: u8) -> Ma
 
 // Writes the codes one after the other. After each the shadow's two ends are changed, so that a
 // recall shows and so does a save.
-fn hold_all(m: Machine, shadow: &mut [u8; 256], nvm: &mut [u8; 256], codes: &[u8]) -> Machine {
+fn hold_all(
+    m: Machine,
+    shadow: &mut [u8; SHADOW_BYTES],
+    nvm: &mut [u8; NVM_BYTES],
+    codes: &[u8],
+) -> Machine {
     let mut left = m;
     for i in 0..codes.len() {
         let code = codes[i];
@@ -78,8 +90,8 @@ fn hold_all(m: Machine, shadow: &mut [u8; 256], nvm: &mut [u8; 256], codes: &[u8
 }
 
 pub fn diagnostic() {
-    let mut shadow = [0x01u8; 256];
-    let mut nvm = [0x9Cu8; 256];
+    let mut shadow = [0x01u8; SHADOW_BYTES];
+    let mut nvm = [0x9Cu8; NVM_BYTES];
     let m = Machine::power_up();
     say::text(b"0A: 83 twice recalls once, every byte as it is\n");
     let m = hold_all(m, &mut shadow, &mut nvm, b"\x83\x83");
@@ -101,18 +113,18 @@ fn lend(shadow: &mut [u8], nvm: &mut [u8], port: u16, code: u8) {
 
 fn short_shadow() {
     let mut shadow = [0x01u8; 255];
-    let mut nvm = [0x02u8; 256];
+    let mut nvm = [0x02u8; NVM_BYTES];
     lend(&mut shadow, &mut nvm, 0x0A, 0x80);
 }
 
 fn long_nvm() {
-    let mut shadow = [0x01u8; 256];
+    let mut shadow = [0x01u8; SHADOW_BYTES];
     let mut nvm = [0x02u8; 257];
     lend(&mut shadow, &mut nvm, 0x0A, 0x40);
 }
 
 fn no_nvm() {
-    let mut shadow = [0x01u8; 256];
+    let mut shadow = [0x01u8; SHADOW_BYTES];
     lend(&mut shadow, &mut [], 0x05, 0xFF);
 }
 
@@ -124,8 +136,8 @@ pub fn lengths() {
 }
 
 fn refusal_of(port: u16, code: u8) -> u8 {
-    let mut shadow = [0u8; 256];
-    let mut nvm = [0u8; 256];
+    let mut shadow = [0u8; SHADOW_BYTES];
+    let mut nvm = [0u8; NVM_BYTES];
     ports::write_port(Machine::power_up(), &mut shadow, &mut nvm, port, code).refusal
 }
 

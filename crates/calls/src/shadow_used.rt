@@ -1,12 +1,13 @@
 // The shadow by place.
 use crate::say;
+use lent::SHADOW_BYTES;
 
-fn write(shadow: &mut [u8; 256], place: usize, value: u8) {
+fn write(shadow: &mut [u8; SHADOW_BYTES], place: usize, value: u8) {
     let answer = shadow::write_shadow(shadow, place, value);
     say::stored(b"shadow write", place as u64, value, answer);
 }
 
-fn read(shadow: &[u8; 256], place: usize) {
+fn read(shadow: &[u8; SHADOW_BYTES], place: usize) {
     let answer = shadow::read_shadow(shadow, place);
     say::read(b"shadow read", place as u64, answer);
 }
@@ -32,7 +33,7 @@ fn long() {
 }
 
 pub fn by_place() {
-    let mut shadow = [0u8; 256];
+    let mut shadow = [0u8; SHADOW_BYTES];
     say::text(b"The shadow by place: modulo 16 both ways, places to 255\n");
     write(&mut shadow, 0, 0x0F);
     write(&mut shadow, 255, 0xA5);

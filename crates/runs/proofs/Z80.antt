@@ -42,13 +42,15 @@ module _ (l : List ℕ) (i v : ℕ) where
 pub changes-one-byte : ChangesOneByte
 changes-one-byte private shared address byte lent fits = rw (lent) (go (isPrivate address) refl)
   where
+    left : Bool → StoredZ80
+    left b = cond b (storedZ80 0 (set private address byte) shared) (storedZ80 0 private (set shared address byte))
+
     lengths : (length private ≡ privateBytes) × (length shared ≡ sharedBytes)
     lengths = lentZ80 lent
 
     go :
         (b : Bool) → isPrivate address ≡ b
-        → OnlyAt b address byte private (cond b (storedZ80 0 (set private address byte) shared) (storedZ80 0 private (set shared address byte)) .private)
-        × OnlyAt (not b) address byte shared (cond b (storedZ80 0 (set private address byte) shared) (storedZ80 0 private (set shared address byte)) .shared)
+        → OnlyAt b address byte private (left b .private) × OnlyAt (not b) address byte shared (left b .shared)
     go true e = (stored private address byte (omega (arith, lengths, private-below address e)), kept shared address byte)
     go false e = (kept private address byte, stored shared address byte (omega (arith, lengths, fits)))
 

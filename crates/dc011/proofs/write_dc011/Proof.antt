@@ -28,7 +28,14 @@ returns-4 : tie.Need-returns-4
 returns-4 c = rw (c .before .match .keys4) (c .set-rate2 .ensures)
 
 returns-5 : tie.Need-returns-5
-returns-5 c = let none = c .match .rest in rw (ne-eqb _ _ (none .0 .0 .0 .1), ne-eqb _ _ (none .0 .0 .1), ne-eqb _ _ (none .0 .1), ne-eqb _ _ (none .1))
+returns-5 c =
+    let none = c .match .rest in
+    rw (
+      ne-eqb _ _ (none .0 .0 .0 .1),
+      ne-eqb _ _ (none .0 .0 .1),
+      ne-eqb _ _ (none .0 .1),
+      ne-eqb _ _ (none .1),
+    )
 
 pub write-dc011-spec : {M : Type 1} → statement M
 write-dc011-spec =

@@ -20,7 +20,14 @@ returns : tie.Need-returns
 returns c =
     let code = c .before .before .before .before .args .code in
     let none = c .before .before .match .rest in
-    rw (lt-leb code 3 (omega arith), lt-leb code 7 (omega arith), ne-eqb _ _ (none .0 .0 .0 .1), ne-eqb _ _ (none .0 .0 .1), ne-eqb _ _ (none .0 .1), ne-eqb _ _ (none .1))
+    rw (
+      lt-leb code 0x03 (omega arith),
+      lt-leb code 0x07 (omega arith),
+      ne-eqb _ _ (none .0 .0 .0 .1),
+      ne-eqb _ _ (none .0 .0 .1),
+      ne-eqb _ _ (none .0 .1),
+      ne-eqb _ _ (none .1),
+    )
 
 returns-2 : tie.Need-returns-2
 returns-2 c = rw (c .before .match .keys1)
@@ -37,12 +44,12 @@ returns-5 c = rw (c .match .keys4)
 returns-6 : tie.Need-returns-6
 returns-6 c =
     let code = c .before .before .before .args .code in
-    rw (le-leb code 3 (omega arith))
+    rw (le-leb code 0x03 (omega arith))
 
 returns-7 : tie.Need-returns-7
 returns-7 c =
     let code = c .before .before .before .before .args .code in
-    rw (lt-leb code 3 (omega arith), le-leb code 7 (omega arith))
+    rw (lt-leb code 0x03 (omega arith), le-leb code 0x07 (omega arith))
 
 pub write-dc012-spec : {M : Type 1} → statement M
 write-dc012-spec =

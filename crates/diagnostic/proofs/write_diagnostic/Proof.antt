@@ -1,3 +1,4 @@
+-- Each way to a return has told whether bit 6 rises, and then whether bit 7 does; a copy leaves the one list in the other.
 use mathlib.Core.Path.{sym, _∙_}
 use borrow.Author.Needs.{needs}
 use Rattle.diagnostic.proofs.write_diagnostic.Statement.{statement}
@@ -10,7 +11,9 @@ rises-requires-2 : tie.Need-rises-requires-2
 rises-requires-2 c κs = search needs
 
 returns : tie.Need-returns
-returns c = rw (sym (c .before .before .before .rises .ensures) ∙ c .before .if1 .taken, sym (c .before .before .rises2 .ensures) ∙ c .if2 .taken)
+returns c =
+    let at = c .before .before in
+    rw (sym (at .before .rises .ensures) ∙ c .before .if1 .taken, sym (at .rises2 .ensures) ∙ c .if2 .taken)
 
 copy-requires : tie.Need-copy-requires
 copy-requires c κs = search needs
@@ -25,7 +28,14 @@ same-length-2 : tie.Need-same-length-2
 same-length-2 c = search needs
 
 returns-2 : tie.Need-returns-2
-returns-2 c = rw (sym (c .before .before .before .before .before .before .before .before .rises .ensures) ∙ c .before .before .before .before .before .before .if1 .taken, sym (c .before .before .before .before .before .before .before .rises2 .ensures) ∙ c .before .before .before .before .before .if2 .left, c .before .before .copy .ensures)
+returns-2 c =
+    let else2 = c .before .before .before .before .before in
+    let at = else2 .before .before in
+    rw (
+      sym (at .before .rises .ensures) ∙ else2 .before .if1 .taken,
+      sym (at .rises2 .ensures) ∙ else2 .if2 .left,
+      c .before .before .copy .ensures,
+    )
 
 same-length-3 : tie.Need-same-length-3
 same-length-3 c = search needs
@@ -34,10 +44,19 @@ same-length-4 : tie.Need-same-length-4
 same-length-4 c = search needs
 
 returns-3 : tie.Need-returns-3
-returns-3 c = rw (sym (c .before .before .before .before .before .before .before .before .rises .ensures) ∙ c .before .before .before .before .before .before .if1 .left, sym (c .before .before .before .before .before .before .before .rises2 .ensures) ∙ c .before .before .before .before .before .if3 .taken, c .before .before .copy2 .ensures)
+returns-3 c =
+    let then3 = c .before .before .before .before .before in
+    let at = then3 .before .before in
+    rw (
+      sym (at .before .rises .ensures) ∙ then3 .before .if1 .left,
+      sym (at .rises2 .ensures) ∙ then3 .if3 .taken,
+      c .before .before .copy2 .ensures,
+    )
 
 returns-4 : tie.Need-returns-4
-returns-4 c = rw (sym (c .before .before .before .rises .ensures) ∙ c .before .if1 .left, sym (c .before .before .rises2 .ensures) ∙ c .if3 .left)
+returns-4 c =
+    let at = c .before .before in
+    rw (sym (at .before .rises .ensures) ∙ c .before .if1 .left, sym (at .rises2 .ensures) ∙ c .if3 .left)
 
 pub write-diagnostic-spec : {M : Type 1} → statement M
 write-diagnostic-spec =

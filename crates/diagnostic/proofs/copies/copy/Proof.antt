@@ -1,3 +1,4 @@
+-- The bytes before `place` are copied.
 use Prim.Native.Nat.{_<_, _≤_, _-_}
 use mathlib.Core.Path.{sym, _∙_, _≡_}
 use native.Mathlib.Omega.{arith}

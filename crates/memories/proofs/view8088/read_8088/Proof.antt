@@ -1,3 +1,4 @@
+-- In each arm of the match the lengths are right and the place that was seen lies in its memory.
 use mathlib.Core.Path.{sym, _∙_}
 use native.Mathlib.Omega.{arith}
 use borrow.Author.Needs.{needs}
@@ -24,7 +25,8 @@ enum-known-place c = search needs
 shared-slice-read-byte-read : tie.Need-shared-slice-read-byte-read
 shared-slice-read-byte-read c =
     let s = c .before .before .before .before in
-    omega (arith, lent8088 (held (s .before .before .lengths-8088 .ensures) (s .before .if1 .left)), placed _ (s .seen-8088 .ensures) (c .before .before .place .given .1))
+    let right = held (s .before .before .lengths-8088 .ensures) (s .before .if1 .left) in
+    omega (arith, lent8088 right, placed _ (s .seen-8088 .ensures) (c .before .before .place .given .1))
 
 byte-read-requires : tie.Need-byte-read-requires
 byte-read-requires c κs = search needs
@@ -35,7 +37,8 @@ enum-known-place-2 c = search needs
 shared-slice-read-byte-read-2 : tie.Need-shared-slice-read-byte-read-2
 shared-slice-read-byte-read-2 c =
     let s = c .before .before .before .before in
-    omega (arith, lent8088 (held (s .before .before .lengths-8088 .ensures) (s .before .if1 .left)), placed _ (s .seen-8088 .ensures) (c .before .before .place2 .given .1))
+    let right = held (s .before .before .lengths-8088 .ensures) (s .before .if1 .left) in
+    omega (arith, lent8088 right, placed _ (s .seen-8088 .ensures) (c .before .before .place2 .given .1))
 
 byte-read-requires-2 : tie.Need-byte-read-requires-2
 byte-read-requires-2 c κs = search needs
@@ -46,7 +49,8 @@ enum-known-place-3 c = search needs
 shared-slice-read-byte-read-3 : tie.Need-shared-slice-read-byte-read-3
 shared-slice-read-byte-read-3 c =
     let s = c .before .before .before .before in
-    omega (arith, lent8088 (held (s .before .before .lengths-8088 .ensures) (s .before .if1 .left)), placed _ (s .seen-8088 .ensures) (c .before .before .place3 .given .1))
+    let right = held (s .before .before .lengths-8088 .ensures) (s .before .if1 .left) in
+    omega (arith, lent8088 right, placed _ (s .seen-8088 .ensures) (c .before .before .place3 .given .1))
 
 byte-read-requires-3 : tie.Need-byte-read-requires-3
 byte-read-requires-3 c κs = search needs
@@ -60,22 +64,26 @@ read-refused-requires-2 c κs = search needs
 returns-2 : tie.Need-returns-2
 returns-2 c =
     let s = c .before .before .before .before .before in
-    rw (held (s .before .before .lengths-8088 .ensures) (s .before .if1 .left), sym (s .seen-8088 .ensures) ∙ c .before .before .before .place .given .1) (c .byte-read .ensures)
+    let right = held (s .before .before .lengths-8088 .ensures) (s .before .if1 .left) in
+    rw (right, sym (s .seen-8088 .ensures) ∙ c .before .before .before .place .given .1) (c .byte-read .ensures)
 
 returns-3 : tie.Need-returns-3
 returns-3 c =
     let s = c .before .before .before .before .before in
-    rw (held (s .before .before .lengths-8088 .ensures) (s .before .if1 .left), sym (s .seen-8088 .ensures) ∙ c .before .before .before .place2 .given .1) (c .byte-read2 .ensures)
+    let right = held (s .before .before .lengths-8088 .ensures) (s .before .if1 .left) in
+    rw (right, sym (s .seen-8088 .ensures) ∙ c .before .before .before .place2 .given .1) (c .byte-read2 .ensures)
 
 returns-4 : tie.Need-returns-4
 returns-4 c =
     let s = c .before .before .before .before .before in
-    rw (held (s .before .before .lengths-8088 .ensures) (s .before .if1 .left), sym (s .seen-8088 .ensures) ∙ c .before .before .before .place3 .given .1) (c .byte-read3 .ensures)
+    let right = held (s .before .before .lengths-8088 .ensures) (s .before .if1 .left) in
+    rw (right, sym (s .seen-8088 .ensures) ∙ c .before .before .before .place3 .given .1) (c .byte-read3 .ensures)
 
 returns-5 : tie.Need-returns-5
 returns-5 c =
     let s = c .before .before .before in
-    rw (held (s .before .before .lengths-8088 .ensures) (s .before .if1 .left), sym (s .seen-8088 .ensures) ∙ c .before .enum-told .given .1) (c .read-refused2 .ensures)
+    let right = held (s .before .before .lengths-8088 .ensures) (s .before .if1 .left) in
+    rw (right, sym (s .seen-8088 .ensures) ∙ c .before .enum-told .given .1) (c .read-refused2 .ensures)
 
 pub read-8088-spec : {M : Type 1} → statement M
 read-8088-spec =

@@ -1,3 +1,4 @@
+-- In each arm of the match the lengths are right and the place that was seen lies in its memory.
 use mathlib.Core.Path.{sym, _∙_}
 use native.Mathlib.Omega.{arith}
 use borrow.Author.Needs.{needs}
@@ -21,7 +22,8 @@ enum-known-place c = search needs
 slice-write-shared : tie.Need-slice-write-shared
 slice-write-shared c =
     let s = c .before .before .before in
-    omega (arith, lent8088 (held (s .before .before .lengths-8088 .ensures) (s .before .if1 .left)), placed _ (s .seen-8088 .ensures) (c .before .place .given .1))
+    let right = held (s .before .before .lengths-8088 .ensures) (s .before .if1 .left) in
+    omega (arith, lent8088 right, placed _ (s .seen-8088 .ensures) (c .before .place .given .1))
 
 enum-known-place-2 : tie.Need-enum-known-place-2
 enum-known-place-2 c = search needs
@@ -29,7 +31,8 @@ enum-known-place-2 c = search needs
 slice-write-screen : tie.Need-slice-write-screen
 slice-write-screen c =
     let s = c .before .before .before in
-    omega (arith, lent8088 (held (s .before .before .lengths-8088 .ensures) (s .before .if1 .left)), placed _ (s .seen-8088 .ensures) (c .before .place2 .given .1))
+    let right = held (s .before .before .lengths-8088 .ensures) (s .before .if1 .left) in
+    omega (arith, lent8088 right, placed _ (s .seen-8088 .ensures) (c .before .place2 .given .1))
 
 enum-known-place-3 : tie.Need-enum-known-place-3
 enum-known-place-3 c = search needs
@@ -37,7 +40,8 @@ enum-known-place-3 c = search needs
 slice-write-attribute : tie.Need-slice-write-attribute
 slice-write-attribute c =
     let s = c .before .before .before in
-    omega (arith, lent8088 (held (s .before .before .lengths-8088 .ensures) (s .before .if1 .left)), placed _ (s .seen-8088 .ensures) (c .before .place3 .given .1))
+    let right = held (s .before .before .lengths-8088 .ensures) (s .before .if1 .left) in
+    omega (arith, lent8088 right, placed _ (s .seen-8088 .ensures) (c .before .place3 .given .1))
 
 enum-told : tie.Need-enum-told
 enum-told c = search needs
@@ -45,10 +49,8 @@ enum-told c = search needs
 returns-2 : tie.Need-returns-2
 returns-2 c =
     let s = c .before .before in
-    rw (
-      held (s .before .before .lengths-8088 .ensures) (s .before .if1 .left),
-      sym (s .seen-8088 .ensures) ∙ c .enum-told .given .1,
-    )
+    let right = held (s .before .before .lengths-8088 .ensures) (s .before .if1 .left) in
+    rw (right, sym (s .seen-8088 .ensures) ∙ c .enum-told .given .1)
 
 same-length : tie.Need-same-length
 same-length c = search needs
@@ -56,10 +58,8 @@ same-length c = search needs
 returns-3 : tie.Need-returns-3
 returns-3 c =
     let s = c .before .before .before in
-    rw (
-      held (s .before .before .lengths-8088 .ensures) (s .before .if1 .left),
-      sym (s .seen-8088 .ensures) ∙ c .before .place .given .1,
-    )
+    let right = held (s .before .before .lengths-8088 .ensures) (s .before .if1 .left) in
+    rw (right, sym (s .seen-8088 .ensures) ∙ c .before .place .given .1)
 
 same-length-2 : tie.Need-same-length-2
 same-length-2 c = search needs
@@ -67,10 +67,8 @@ same-length-2 c = search needs
 returns-4 : tie.Need-returns-4
 returns-4 c =
     let s = c .before .before .before in
-    rw (
-      held (s .before .before .lengths-8088 .ensures) (s .before .if1 .left),
-      sym (s .seen-8088 .ensures) ∙ c .before .place2 .given .1,
-    )
+    let right = held (s .before .before .lengths-8088 .ensures) (s .before .if1 .left) in
+    rw (right, sym (s .seen-8088 .ensures) ∙ c .before .place2 .given .1)
 
 same-length-3 : tie.Need-same-length-3
 same-length-3 c = search needs
@@ -78,10 +76,8 @@ same-length-3 c = search needs
 returns-5 : tie.Need-returns-5
 returns-5 c =
     let s = c .before .before .before in
-    rw (
-      held (s .before .before .lengths-8088 .ensures) (s .before .if1 .left),
-      sym (s .seen-8088 .ensures) ∙ c .before .place3 .given .1,
-    )
+    let right = held (s .before .before .lengths-8088 .ensures) (s .before .if1 .left) in
+    rw (right, sym (s .seen-8088 .ensures) ∙ c .before .place3 .given .1)
 
 pub store-8088-spec : {M : Type 1} → statement M
 store-8088-spec =

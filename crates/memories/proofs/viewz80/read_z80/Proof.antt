@@ -35,13 +35,15 @@ returns-2 : tie.Need-returns-2
 unfolding seenZ80
 returns-2 c =
     let s = c .before .before .before in
-    rw (held (s .before .lengths-z80 .ensures) (s .if1 .left), below0800 _ (c .before .before .if2 .taken)) (c .byte-read .ensures)
+    let right = held (s .before .lengths-z80 .ensures) (s .if1 .left) in
+    rw (right, below0800 _ (c .before .before .if2 .taken)) (c .byte-read .ensures)
 
 returns-3 : tie.Need-returns-3
 unfolding seenZ80
 returns-3 c =
     let s = c .before .before .before in
-    rw (held (s .before .lengths-z80 .ensures) (s .if1 .left), from0800 _ (c .before .before .if2 .left)) (c .byte-read2 .ensures)
+    let right = held (s .before .lengths-z80 .ensures) (s .if1 .left) in
+    rw (right, from0800 _ (c .before .before .if2 .left)) (c .byte-read2 .ensures)
 
 pub read-z80-spec : {M : Type 1} → statement M
 read-z80-spec =

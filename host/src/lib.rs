@@ -1,0 +1,16 @@
+//! A model of document 01 in ordinary Rust, written from the document alone. It makes the output
+//! that the programs of the gate must write, so that the proved code is held by something beside
+//! its own definitions.
+pub mod machine;
+pub mod memories;
+
+/// A number of refusal, 1 to 6, or the accepted value.
+pub type Answer<T> = Result<T, u8>;
+
+/// The number that the library gives for an answer.
+pub fn refusal<T>(answer: &Answer<T>) -> u8 {
+    match answer {
+        Ok(_) => 0,
+        Err(number) => *number,
+    }
+}
