@@ -12,14 +12,10 @@ returns : tie.Need-returns
 returns c = rw (failed (c .before .lengths-z80 .ensures) (c .if1 .taken))
 
 slice-write-private : tie.Need-slice-write-private
-slice-write-private c =
-    let s = c .before in
-    omega (arith, lentZ80 (held (s .before .lengths-z80 .ensures) (s .if1 .left)))
+slice-write-private c = omega (arith, lentZ80 (held (c .before .before .lengths-z80 .ensures) (c .before .if1 .left)))
 
 slice-write-shared : tie.Need-slice-write-shared
-slice-write-shared c =
-    let s = c .before in
-    omega (arith, lentZ80 (held (s .before .lengths-z80 .ensures) (s .if1 .left)))
+slice-write-shared c = omega (arith, lentZ80 (held (c .before .before .lengths-z80 .ensures) (c .before .if1 .left)))
 
 same-length : tie.Need-same-length
 same-length c = search needs
