@@ -17,20 +17,6 @@ const TURNS: u32 = 20000;
 
 const PARTS: u32 = 5;
 
-fn turn(
-    run: Run,
-    shared: &mut [u8; SHARED_BYTES],
-    private: &mut [u8; PRIVATE_BYTES],
-    screen: &mut [u8; SCREEN_BYTES],
-    attribute: &mut [u8; ATTRIBUTE_BYTES],
-    shadow: &mut [u8; SHADOW_BYTES],
-    nvm: &mut [u8; NVM_BYTES],
-) -> Run {
-    let a = turns::by_8088(run, shared, screen, attribute);
-    let b = turns::by_z80(a, private, shared);
-    turns::by_ports(b, shadow, nvm)
-}
-
 fn tell(sum: u64) {
     io::write_all(STDOUT_FILENO, b"sum ");
     io::print_hex(STDOUT_FILENO, sum, 8);
@@ -49,7 +35,9 @@ fn part(
 ) -> Run {
     let mut kept = run;
     for _ in 0..TURNS {
-        kept = turn(kept, shared, private, screen, attribute, shadow, nvm);
+        let a = turns::by_8088(kept, shared, screen, attribute);
+        let b = turns::by_z80(a, private, shared);
+        kept = turns::by_ports(b, shadow, nvm);
     }
     let sum = turns::summed(kept.sum, shared);
     let sum = turns::summed(sum, private);

@@ -12,8 +12,14 @@ abbrev μ-loop : tie.MeasureT-loop
 loop-holds : tie.Need-loop-holds Inv-loop μ-loop
 loop-holds c = search needs
 
-turn-requires : tie.Need-turn-requires Inv-loop μ-loop
-turn-requires c κs = search needs
+by-8088-requires : tie.Need-by-8088-requires Inv-loop μ-loop
+by-8088-requires c κs = search needs
+
+by-z80-requires : tie.Need-by-z80-requires Inv-loop μ-loop
+by-z80-requires c κs = search needs
+
+by-ports-requires : tie.Need-by-ports-requires Inv-loop μ-loop
+by-ports-requires c κs = search needs
 
 add-counter : tie.Need-add-counter Inv-loop μ-loop
 add-counter c = search needs
@@ -55,7 +61,9 @@ part-spec =
     Inv-loop
     μ-loop
     loop-holds
-    turn-requires
+    by-8088-requires
+    by-z80-requires
+    by-ports-requires
     add-counter
     loop-less
     loop-again
