@@ -36,14 +36,14 @@ unfolding seenZ80
 returns-2 c =
     let s = c .before .before .before in
     let right = held (s .before .lengths-z80 .ensures) (s .if1 .left) in
-    rw (right, below0800 _ (c .before .before .if2 .taken)) (c .byte-read .ensures)
+    rw (right, below0800 (s .before .before .before .before .args .address) (omega arith)) (c .byte-read .ensures)
 
 returns-3 : tie.Need-returns-3
 unfolding seenZ80
 returns-3 c =
     let s = c .before .before .before in
     let right = held (s .before .lengths-z80 .ensures) (s .if1 .left) in
-    rw (right, from0800 _ (c .before .before .if2 .left)) (c .byte-read2 .ensures)
+    rw (right, from0800 (s .before .before .before .before .args .address) (omega arith)) (c .byte-read2 .ensures)
 
 pub read-z80-spec : {M : Type 1} → statement M
 read-z80-spec =

@@ -23,7 +23,7 @@ same-length c = search needs
 returns-2 : tie.Need-returns-2
 returns-2 c =
     let s = c .before in
-    rw (held (s .before .lengths-z80 .ensures) (s .if1 .left), below0800 _ (c .if2 .taken))
+    rw (held (s .before .lengths-z80 .ensures) (s .if1 .left), below0800 (s .before .before .before .before .args .address) (omega arith))
 
 same-length-2 : tie.Need-same-length-2
 same-length-2 c = search needs
@@ -31,7 +31,7 @@ same-length-2 c = search needs
 returns-3 : tie.Need-returns-3
 returns-3 c =
     let s = c .before in
-    rw (held (s .before .lengths-z80 .ensures) (s .if1 .left), from0800 _ (c .if2 .left))
+    rw (held (s .before .lengths-z80 .ensures) (s .if1 .left), from0800 (s .before .before .before .before .args .address) (omega arith))
 
 pub store-z80-spec : {M : Type 1} → statement M
 store-z80-spec =
