@@ -18,3 +18,6 @@ nvmBytes = 256
 
 abbrev pub shadowBytes : ℕ
 shadowBytes = 256
+
+abbrev pub pictureBytes : ℕ
+pictureBytes = 6432

@@ -16,6 +16,8 @@ pub const NVM_BYTES: usize = 256;
 
 pub const SHADOW_BYTES: usize = 256;
 
+pub const PICTURE_BYTES: usize = 6432;
+
 // The refusal of a call that is accepted.
 pub const ACCEPTED: u8 = 0;
 // A lent buffer's length differs from the list.

@@ -1,0 +1,69 @@
+-- Laws about the chain: the search for a terminator, a line's capacity, what lies ahead.
+use Prim.Native.Nat.{ℕ, zero, suc, _+_, _-_, _*_, _/_, _%_, _≤_, _<_}
+use mathlib.Core.Path.{_≡_, refl, sym, _∙_}
+use mathlib.Core.List.{List}
+use mathlib.Core.Bool.{Bool, true, false, cond}
+use native.Mathlib.Nat.{mod-lt}
+use native.Mathlib.Omega.{arith}
+use borrow.Author.Tests.{eq-eqb, ne-eqb}
+use lib.Dec.{eqb}
+use Rattle.chain.specs.Chain.{Chain, Row as ARow, Whole, Torn, Dark as DarkRow, places, byteAt, wide, capacity, firstFF, terminator, ended, link, rowFrom, next}
+use Rattle.chain.specs.Ahead.{rowAhead, aheadAfter, Placed}
+use Rattle.chain.specs.declared.Head.{Head}
+use Rattle.chain.specs.declared.Terminator.{Terminator}
+use Rattle.chain.specs.declared.Terminator.the-variants.{After, Missing}
+use Rattle.chain.specs.declared.Ahead.{Ahead}
+use Rattle.chain.specs.declared.Ahead.the-variants.{Row, Dark}
+
+-- the search through `bytes` bytes that has passed `cells` of them and reads the next
+module _ (screen : List ℕ) (start bytes cells : ℕ) {byte : ℕ} (read : byte ≡ byteAt screen (start + cells)) (more : cells < bytes) where
+  left : bytes - cells ≡ suc (bytes - (cells + 1))
+  left = omega arith
+
+  pub search-ends : byte ≡ 0xFF → firstFF screen start cells (bytes - cells) ≡ After cells
+  unfolding firstFF
+  search-ends h = rw (left, eq-eqb (byteAt screen (start + cells)) 0xFF (sym read ∙ h))
+
+  pub search-goes-on :
+      (byte ≡ 0xFF → ⊥)
+      → firstFF screen start cells (bytes - cells) ≡ firstFF screen start (cells + 1) (bytes - (cells + 1))
+  unfolding firstFF
+  search-goes-on h = rw (left, ne-eqb (byteAt screen (start + cells)) 0xFF (λ e. h (read ∙ e)))
+
+pub search-fails : (screen : List ℕ) (start bytes cells : ℕ) → cells ≡ bytes → firstFF screen start cells (bytes - cells) ≡ Missing
+unfolding firstFF
+search-fails screen start bytes cells h = let none : bytes - cells ≡ 0 = omega arith in rw none
+
+pub found-within :
+    (screen : List ℕ) (start cells bytes : ℕ) {n : ℕ} → firstFF screen start cells bytes ≡ After n → n < cells + bytes
+unfolding firstFF
+found-within screen start cells zero {n} e = let z : _≡_ {A = ℕ} 0 1 = cc in absurd (omega arith)
+found-within screen start cells (suc bytes) {n} e =
+    go (eqb (byteAt screen (start + cells)) 0xFF) (found-within screen start (cells + 1) bytes) e
+  where
+    go :
+        (b : Bool) → (firstFF screen start (cells + 1) bytes ≡ After n → n < cells + 1 + bytes)
+        → cond b (After cells) (firstFF screen start (cells + 1) bytes) ≡ After n → n < cells + suc bytes
+    go true later h = let here : cells ≡ n = cc in omega arith
+    go false later h = let there = later h in omega arith
+
+pub capacity-within : (columns kind : ℕ) → capacity columns kind ≤ columns
+unfolding capacity
+capacity-within columns kind = go (wide kind)
+  where
+    go : (b : Bool) → cond b (columns / 2) columns ≤ columns
+    go true = omega arith
+    go false = omega arith
+
+-- what lies ahead after a row is the row after it, and starts at a place
+pub leads-on : (c : Chain) (row : ARow) → rowAhead c (aheadAfter c row) ≡ next c row
+unfolding next
+leads-on c (Whole head cells) = refl
+leads-on c (Torn head) = refl
+leads-on c DarkRow = refl
+
+pub placed-after : (c : Chain) (row : ARow) → Placed (aheadAfter c row)
+unfolding link
+placed-after c (Whole head cells) = mod-lt _ (omega arith)
+placed-after c (Torn head) = tt
+placed-after c DarkRow = tt

@@ -1,0 +1,3 @@
+pub mod Chain
+pub mod Reading
+pub mod Ahead

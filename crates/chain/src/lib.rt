@@ -1,0 +1,69 @@
+// The chain of lines in screen memory: where a row starts, how many cells it can have, and what its
+// link says of the row after it. Document 01, "The chain of lines".
+ghost use Prim.Native.Nat.{_+_, _≤_, _<_};
+ghost use mathlib.Core.Path.{_≡_};
+ghost use lib.ListN.{length};
+ghost use Rattle.lent.specs.Lengths.{screenBytes, attributeBytes};
+ghost use Rattle.chain.specs.Chain.{places, byteAt, capacity, first, link};
+
+// There are always so many rows.
+pub const ROWS: usize = 24;
+// The byte after a row's last cell.
+pub const TERMINATOR: u8 = 0xFF;
+// The one kind that is not wide, in bits 1 and 0.
+const NORMAL: u8 = 3;
+
+// Where a row starts, and its kind.
+pub struct Head {
+    pub start: usize,
+    pub kind: u8,
+}
+
+// What a search for the terminator finds: how many bytes after the row's start it stands.
+pub enum Terminator {
+    After(usize),
+    Missing,
+}
+
+// What the chain leads to.
+pub enum Ahead {
+    Row(Head),
+    Dark,
+}
+
+impl Head {
+    pub fn first() -> Head
+        ensures { λ r. ⌜ r ≡ first ⌝ }
+    {
+        Head { start: 0, kind: NORMAL }
+    }
+}
+
+pub fn byte_at(memory: &[u8], place: usize) -> u8
+    requires { ⌜ length (now memory) ≡ places ⌝ }
+    ensures { λ r. ⌜ r ≡ byteAt (now (memory .entry)) place ⌝ }
+{
+    memory[place % lent::SCREEN_BYTES]
+}
+
+pub fn capacity(columns: usize, kind: u8) -> usize
+    ensures { λ r. ⌜ r ≡ capacity columns kind ⌝ }
+    ensures { λ r. ⌜ r ≤ columns ⌝ }
+{
+    if kind % 4 < NORMAL { columns / 2 } else { columns }
+}
+
+// The link of the row whose terminator stands at `place`.
+pub fn link(screen: &[u8], attribute: &[u8], place: usize) -> Head
+    requires { ⌜ length (now screen) ≡ screenBytes ⌝ }
+    requires { ⌜ length (now attribute) ≡ attributeBytes ⌝ }
+    requires { ⌜ place < places + places ⌝ }
+    ensures { λ r. ⌜ r ≡ link (now (screen .entry)) (now (attribute .entry)) place ⌝ }
+{
+    let low = byte_at(screen, place + 1) as usize;
+    let high = byte_at(screen, place + 2) as usize;
+    Head {
+        start: (low + 256 * high) % lent::SCREEN_BYTES,
+        kind: byte_at(attribute, place + 1) % 8,
+    }
+}

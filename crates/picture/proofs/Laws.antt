@@ -1,0 +1,58 @@
+-- Laws about a record's pairs and header.
+use Prim.Native.Nat.{ℕ, suc, _+_, _*_, _≤_, _<_}
+use mathlib.Core.Path.{_≡_, refl}
+use mathlib.Core.List.{List, [], _∷_, _++_, append-assoc}
+use mathlib.Core.Bool.{Bool, true, false, cond, and-eq-true-iff}
+use native.Mathlib.Omega.{arith}
+use borrow.Author.Tests.{eqb-true}
+use lib.Dec.{eqb}
+use lib.ListN.{length, take, drop, set, length-set, length-drop}
+use lib.Seq.{take-suc-set, drop-set-add}
+use Rattle.lent.specs.Lengths.{screenBytes, attributeBytes, pictureBytes}
+use Rattle.lent.proofs.Tests.{both-equal}
+use Rattle.machine.specs.declared.Machine.{Machine}
+use Rattle.machine.specs.Settings.{columns}
+use Rattle.picture.specs.Record.{headBytes, recordPairs, pairsOf}
+use Rattle.picture.specs.Draw.{lengthsPicture}
+
+-- a pair is stored after the pairs before it
+pub pair-stored :
+    (l : List ℕ) (k a b : ℕ) → headBytes + 2 * k + 1 < length l
+    → take (2 * (k + 1)) (pairsOf (set (set l (headBytes + 2 * k) a) (headBytes + 2 * k + 1) b))
+    ≡ take (2 * k) (pairsOf l) ++ (a ∷ b ∷ [])
+pair-stored l k a b h =
+    let two : 2 * (k + 1) ≡ suc (suc (2 * k)) = omega arith in
+    let second : headBytes + 2 * k + 1 ≡ headBytes + suc (2 * k) = omega arith in
+    let odd : suc (2 * k) < length (set (pairsOf l) (2 * k) a) = simp (length-set, length-drop) (omega arith) in
+    let even : 2 * k < length (pairsOf l) = simp length-drop (omega arith) in
+    rw (two, second, drop-set-add headBytes (set l (headBytes + 2 * k) a) (suc (2 * k)) b,
+    drop-set-add headBytes l (2 * k) a, take-suc-set (set (pairsOf l) (2 * k) a) (suc (2 * k)) b odd,
+    take-suc-set (pairsOf l) (2 * k) a even)
+    (append-assoc (take (2 * k) (pairsOf l)) (a ∷ []) (b ∷ []))
+
+-- the header is stored ahead of the rest
+pub head-stored :
+    (l : List ℕ) (a b c d : ℕ) → headBytes ≤ length l
+    → set (set (set (set l 0 a) 1 b) 2 c) 3 d ≡ (a ∷ b ∷ c ∷ d ∷ []) ++ pairsOf l
+head-stored [] a b c d h = absurd (omega arith)
+head-stored (w ∷ []) a b c d h = absurd (omega arith)
+head-stored (w ∷ x ∷ []) a b c d h = absurd (omega arith)
+head-stored (w ∷ x ∷ y ∷ []) a b c d h = absurd (omega arith)
+head-stored (w ∷ x ∷ y ∷ z ∷ l) a b c d h = refl
+
+-- the lengths are those of the list where the test holds
+pub lentPicture :
+    {screen attribute picture : ℕ} → lengthsPicture screen attribute picture ≡ true
+    → (screen ≡ screenBytes) × ((attribute ≡ attributeBytes) × (picture ≡ pictureBytes))
+unfolding lengthsPicture
+lentPicture {screen} {attribute} {picture} e =
+    let parts = and-eq-true-iff (eqb screen screenBytes) _ .0 e in
+    (eqb-true screen screenBytes (parts .0), both-equal attribute attributeBytes picture pictureBytes (parts .1))
+
+-- a line of either setting fits the pairs of a record
+pub columns-fit : (m : Machine) → columns m ≤ recordPairs
+columns-fit m = go (m .columns132)
+  where
+    go : (b : Bool) → cond b 132 80 ≤ recordPairs
+    go true = omega arith
+    go false = omega arith

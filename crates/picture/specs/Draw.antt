@@ -1,0 +1,40 @@
+-- Document 01, "The picture" and "The chain of lines": the drawing call.
+use Prim.Native.Nat.{ℕ}
+use mathlib.Core.List.{List}
+use mathlib.Core.Bool.{Bool, cond, _&&_}
+use lib.ListN.{length}
+use lib.Dec.{eqb}
+use Rattle.lent.specs.Lengths.{screenBytes, attributeBytes, pictureBytes}
+use Rattle.lent.specs.Refusals.{accepted, lengthRefused}
+use Rattle.machine.specs.declared.Machine.{Machine}
+use Rattle.machine.specs.Settings.{columns}
+use Rattle.chain.specs.Chain.{Chain, chain}
+use Rattle.chain.specs.Reading.{walkReads}
+use Rattle.picture.specs.Record.{pictureOf}
+use Rattle.picture.specs.declared.drawing.Drawn.{Drawn}
+
+-- the three lengths are those of the list
+unfoldable pub lengthsPicture : ℕ → ℕ → ℕ → Bool
+lengthsPicture screen attribute picture =
+    eqb screen screenBytes && (eqb attribute attributeBytes && eqb picture pictureBytes)
+
+-- what a drawing leaves: its answer and the picture
+pub record DrawnPicture : Type 0 where
+  pub answer : Drawn
+  pub picture : List ℕ
+
+abbrev pub drawn : Drawn → List ℕ → DrawnPicture
+drawn answer picture = record { answer = answer; picture = picture }
+
+-- the chain that the machine's column setting and the two memories make
+abbrev pub chainOf : Machine → List ℕ → List ℕ → Chain
+chainOf m screen attribute = chain (columns m) screen attribute
+
+-- "The drawing call reports the bytes of screen memory that the walk reads"
+abbrev pub draw : Machine → (screen attribute picture : List ℕ) → DrawnPicture
+draw m screen attribute picture =
+    cond (lengthsPicture (length screen) (length attribute) (length picture))
+    (drawn
+    (record { refusal = accepted; reads = walkReads (chainOf m screen attribute) })
+    (pictureOf (chainOf m screen attribute)))
+    (drawn (record { refusal = lengthRefused; reads = 0 }) picture)
