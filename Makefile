@@ -12,8 +12,12 @@ test:
 	.ci/run
 
 expected:
-	cargo run -q --release --manifest-path host/Cargo.toml --bin expected_calls > crates/calls/stdout
-	cargo run -q --release --manifest-path host/Cargo.toml --bin expected_long_run > crates/long_run/stdout
+	cargo build -q --release --manifest-path host/Cargo.toml
+	host/target/release/expected_rows screen > crates/rows/stdin
+	host/target/release/expected_rows > crates/rows/stdout
+	host/target/release/expected_calls > crates/calls/stdout
+	host/target/release/expected_long_run > crates/long_run/stdout
+	host/target/release/expected_screens > crates/screens/stdout
 
 clean:
 	rm -rf target host/target

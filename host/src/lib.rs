@@ -1,8 +1,11 @@
 //! A model of document 01 in ordinary Rust, written from the document alone. It makes the output
 //! that the programs of the gate must write, so that the proved code is held by something beside
 //! its own definitions.
+pub mod chain;
 pub mod machine;
 pub mod memories;
+pub mod sample;
+pub mod trial;
 
 /// A number of refusal, 1 to 6, or the accepted value.
 pub type Answer<T> = Result<T, u8>;

@@ -1,14 +1,37 @@
 -- The definitions give what document 01 says, in every case of the table.
 use mathlib.Core.Path.{_≡_, refl}
-use mathlib.Core.List.{map}
+use mathlib.Core.List.{List, map, map-append}
 use Rattle.memories.specs.View8088.{within, lengths8088, seen8088}
 use Rattle.memories.specs.ViewZ80.{lengthsZ80, isPrivate}
 use Rattle.ports.specs.Ports.{lengthsNvm}
-use Rattle.cases.specs.Said.{Case, differ}
+use Rattle.chain.specs.Chain.{byteAt, capacity, firstFF, terminator, link, rowFrom, next, rowAt}
+use Rattle.chain.specs.Reading.{reads, readsTo}
+use Rattle.picture.specs.Record.{cellPairs, fillPairs, recordOf, pictureTo}
+use Rattle.picture.specs.Draw.{lengthsPicture}
+use Rattle.cases.specs.Said.{Said, Case, differ}
+use Rattle.cases.specs.Screens.{alikeFrom, alike, drawnFrom, rowsOf, drawnAll, memory, byteOfRow, startOfRow, countOfRow}
 use Rattle.cases.specs.Memories.{zeros, refusedBy, storedByZ80, storedBy8088}
 use Rattle.cases.specs.Ports.{shadow, nvm, written, writtenAll, none, recalls}
-use Rattle.cases.specs.Table.{table}
+use Rattle.cases.specs.Table.{screens, stores, writes, table}
+
+abbrev gives : List Case → List (List Said)
+gives = map (λ (c : Case). c .gives)
+
+abbrev says : List Case → List (List Said)
+says = map (λ (c : Case). c .says)
+
+drawn : gives screens ≡ says screens
+unfolding byteAt capacity firstFF terminator link rowFrom next rowAt reads readsTo cellPairs fillPairs recordOf pictureTo lengthsPicture alikeFrom alike drawnFrom rowsOf drawnAll memory byteOfRow startOfRow countOfRow screens
+drawn = refl
+
+stored : gives stores ≡ says stores
+unfolding within lengths8088 seen8088 lengthsZ80 isPrivate differ zeros refusedBy storedByZ80 storedBy8088 stores
+stored = refl
+
+written-out : gives writes ≡ says writes
+unfolding lengthsNvm differ shadow nvm written writtenAll none recalls writes
+written-out = refl
 
 pub worked : map (λ (c : Case). c .gives) table ≡ map (λ (c : Case). c .says) table
-unfolding within lengths8088 seen8088 lengthsZ80 isPrivate lengthsNvm differ zeros refusedBy storedByZ80 storedBy8088 shadow nvm written writtenAll none recalls table
-worked = refl
+unfolding table
+worked = simp map-append (rw (drawn, stored, written-out))

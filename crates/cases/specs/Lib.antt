@@ -1,4 +1,5 @@
 pub mod Said
+pub mod Screens
 pub mod Memories
 pub mod Ports
 pub mod Table

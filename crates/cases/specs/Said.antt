@@ -12,6 +12,10 @@ pub data Said : Type 0 where
   Refused : (number : ℕ) → Said
   Interlaced : Bool → Said
   Recalls : ℕ → Said
+  Row : (row start kind count : ℕ) → Said
+  Start : ℕ → Said
+  Count : ℕ → Said
+  Reads : ℕ → Said
 
 -- a case: what the definitions give, and what document 01 says
 pub record Case : Type 0 where

@@ -1,13 +1,43 @@
 -- Document 01, "Screens and ports worked out": the cases marked P.
-use mathlib.Core.List.{List, [], _∷_}
+use mathlib.Core.List.{List, [], _∷_, _++_}
+use lib.ListN.{replicate}
 use mathlib.Core.Bool.{true, false}
+use Rattle.lent.specs.Lengths.{screenBytes, attributeBytes}
 use Rattle.machine.specs.Power.{powerUp}
-use Rattle.cases.specs.Said.{Case, Private, Shared, Screen, Attribute, Refused, Interlaced, Recalls}
+use Rattle.cases.specs.Said.{Case, Private, Shared, Screen, Attribute, Refused, Interlaced, Recalls, Row, Start, Count, Reads}
+use Rattle.cases.specs.Screens.{torn, dark, alike, drawnAll, startOfRow, countOfRow}
 use Rattle.cases.specs.Memories.{storedByZ80, storedBy8088}
 use Rattle.cases.specs.Ports.{writtenAll, recalls}
 
-unfoldable pub table : List Case
-table =
+-- P1 to P6
+unfoldable pub screens : List Case
+screens =
+    -- P1: screen all FF, attribute all 00, 80 columns: row 0: start 0, kind 3, count 0; rows 1 to 23: start 4095, kind 0,
+    -- count 0; 72 read
+    record {
+      gives = drawnAll (replicate screenBytes 0xFF) (replicate attributeBytes 0x00);
+      says = Reads 72 ∷ Row 0 0 3 0 ∷ alike 1 23 4095 0 0;
+    }
+    -- P2: both all 00, 80 columns: row 0 torn, others dark; 81 read
+    ∷ record {
+      gives = drawnAll (replicate screenBytes 0x00) (replicate attributeBytes 0x00);
+      says = Reads 81 ∷ Row 0 0 3 torn ∷ alike 1 23 0 3 dark;
+    }
+    -- P3: FF 50 01: next start 336
+    ∷ record { gives = startOfRow 1 (0xFF ∷ 0x50 ∷ 0x01 ∷ []) 0x03; says = Start 336 ∷ [] }
+    -- P4: FF 50 F1: next start 336
+    ∷ record { gives = startOfRow 1 (0xFF ∷ 0x50 ∷ 0xF1 ∷ []) 0x03; says = Start 336 ∷ [] }
+    -- P5: normal, 80: first FF 80 or 81 bytes after the start: count 80; torn
+    ∷ record { gives = countOfRow 0 (replicate 80 0x41 ++ (0xFF ∷ [])) 0x03; says = Count 80 ∷ [] }
+    ∷ record { gives = countOfRow 0 (replicate 81 0x41 ++ (0xFF ∷ [])) 0x03; says = Count torn ∷ [] }
+    -- P6: double width, 80: FF 40 or 41 after: count 40; torn. Row 1 starts at place 3
+    ∷ record { gives = countOfRow 1 (0xFF ∷ 3 ∷ 0 ∷ replicate 40 0x41 ++ (0xFF ∷ [])) 0x02; says = Count 40 ∷ [] }
+    ∷ record { gives = countOfRow 1 (0xFF ∷ 3 ∷ 0 ∷ replicate 41 0x41 ++ (0xFF ∷ [])) 0x02; says = Count torn ∷ [] }
+    ∷ []
+
+-- P7, P8
+unfoldable pub stores : List Case
+stores =
     -- P7: Z80 store at 07FF; at 0800: private 2047; shared 2048
     record { gives = storedByZ80 0x07FF; says = Private 2047 ∷ [] }
     ∷ record { gives = storedByZ80 0x0800; says = Shared 2048 ∷ [] }
@@ -17,8 +47,13 @@ table =
     ∷ record { gives = storedBy8088 0xEDFFF; says = Refused 2 ∷ [] }
     ∷ record { gives = storedBy8088 0xF0000; says = Refused 2 ∷ [] }
     ∷ record { gives = storedBy8088 0x10000; says = Refused 2 ∷ [] }
+    ∷ []
+
+-- P9, P12
+unfoldable pub writes : List Case
+writes =
     -- P9: DC011 00 then 20; 20 then 00: not interlaced; interlaced
-    ∷ record {
+    record {
       gives = Interlaced (writtenAll 0x04 powerUp (0x00 ∷ 0x20 ∷ []) .interlace) ∷ [];
       says = Interlaced false ∷ [];
     }
@@ -29,3 +64,6 @@ table =
     -- P12: 0A holds 00, write 83 twice: one recall
     ∷ record { gives = Recalls (recalls 0x0A powerUp (0x83 ∷ 0x83 ∷ [])) ∷ []; says = Recalls 1 ∷ [] }
     ∷ []
+
+unfoldable pub table : List Case
+table = screens ++ stores ++ writes

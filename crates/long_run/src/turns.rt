@@ -8,6 +8,8 @@ use lent::SCREEN_BYTES;
 use lent::SHADOW_BYTES;
 use lent::SHARED_BYTES;
 use machine::Machine;
+use trial::added;
+use trial::next;
 
 pub struct Run {
     pub machine: Machine,
@@ -26,31 +28,9 @@ impl Run {
     }
 }
 
-// The generator's next number, of 32 bits; the upper ones are the better ones.
-fn next(seed: u64) -> u64 {
-    (seed % 4294967296 * 1664525 + 1013904223) % 4294967296
-}
-
-fn added(sum: u64, number: u64) -> u64 {
-    (sum % 4294967296 * 31 + number % 4294967296) % 4294967296
-}
-
 // The sum with the answer of a read in it.
 fn heard(sum: u64, read: ByteRead) -> u64 {
     added(added(sum, read.refusal as u64), read.byte as u64)
-}
-
-// The sum with every byte of a memory in it.
-pub fn summed(sum: u64, memory: &[u8]) -> u64 {
-    let mut s = sum;
-    for i in 0..memory.len() {
-        s = added(s, wide(memory[i]));
-    }
-    s
-}
-
-fn wide(byte: u8) -> u64 {
-    byte as u64
 }
 
 // An address some places before an edge of what the 8088 sees.

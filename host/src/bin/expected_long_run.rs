@@ -1,6 +1,7 @@
 //! What the program crates/long_run must write, by the model: the same generator, the same calls.
 use host::machine::Machine;
 use host::memories::{self, View8088};
+use host::trial;
 use host::{refusal, Answer};
 
 const TURNS: u32 = 20000;
@@ -18,12 +19,12 @@ struct Run {
 
 impl Run {
     fn next(&mut self) -> u32 {
-        self.seed = self.seed.wrapping_mul(1664525).wrapping_add(1013904223);
+        self.seed = trial::next(self.seed);
         self.seed
     }
 
     fn add(&mut self, number: u32) {
-        self.sum = self.sum.wrapping_mul(31).wrapping_add(number);
+        self.sum = trial::added(self.sum, number);
     }
 
     fn heard(&mut self, answer: Answer<u8>) {
@@ -97,7 +98,7 @@ impl Run {
     fn told(&self) -> u32 {
         let memories =
             [&self.view.shared, &self.private, &self.view.screen, &self.view.attribute, &self.shadow, &self.nvm];
-        memories.into_iter().flatten().fold(self.sum, |sum, byte| sum.wrapping_mul(31).wrapping_add((*byte).into()))
+        trial::summed(self.sum, memories.into_iter().flatten())
     }
 }
 

@@ -1,8 +1,8 @@
 use Prim.Native.Nat.{_≤_, _-_}
 use lib.ListN.{length}
 use borrow.Author.Needs.{needs}
-use Rattle.long_run.proofs.turns.summed.Statement.{statement}
-use Rattle.long_run.proofs.turns.summed.Tie as tie
+use Rattle.trial.proofs.summed.Statement.{statement}
+use Rattle.trial.proofs.summed.Tie as tie
 
 abbrev Inv-loop : tie.InvT-loop
 Inv-loop sum memory s₀ i₀ i-end s i = i-end ≤ length memory
