@@ -1,7 +1,7 @@
 -- Document 01, "Screens and ports worked out": the cases marked P.
 use mathlib.Core.List.{List, [], _∷_, _++_}
-use lib.ListN.{replicate}
 use mathlib.Core.Bool.{true, false}
+use lib.ListN.{replicate}
 use Rattle.lent.specs.Lengths.{screenBytes, attributeBytes}
 use Rattle.machine.specs.Power.{powerUp}
 use Rattle.cases.specs.Said.{Case, Private, Shared, Screen, Attribute, Refused, Interlaced, Recalls, Row, Start, Count, Reads}

@@ -1,19 +1,15 @@
 -- Laws about the chain: the search for a terminator, a line's capacity, what lies ahead.
-use Prim.Native.Nat.{ℕ, zero, suc, _+_, _-_, _*_, _/_, _%_, _≤_, _<_}
+use Prim.Native.Nat.{ℕ, zero, suc, _+_, _-_, _/_, _≤_, _<_}
 use mathlib.Core.Path.{_≡_, refl, sym, _∙_}
 use mathlib.Core.List.{List}
 use mathlib.Core.Bool.{Bool, true, false, cond}
 use native.Mathlib.Nat.{mod-lt}
 use native.Mathlib.Omega.{arith}
-use borrow.Author.Tests.{eq-eqb, ne-eqb}
 use lib.Dec.{eqb}
-use Rattle.chain.specs.Chain.{Chain, Row as ARow, Whole, Torn, Dark as DarkRow, places, byteAt, wide, capacity, firstFF, terminator, ended, link, rowFrom, next}
+use borrow.Author.Tests.{eq-eqb, ne-eqb}
+use Rattle.chain.specs.Chain.{Chain, Row as ARow, Whole, Torn, Dark as DarkRow, byteAt, wide, capacity, firstFF, link, next}
 use Rattle.chain.specs.Ahead.{rowAhead, aheadAfter, Placed}
-use Rattle.chain.specs.declared.Head.{Head}
-use Rattle.chain.specs.declared.Terminator.{Terminator}
 use Rattle.chain.specs.declared.Terminator.the-variants.{After, Missing}
-use Rattle.chain.specs.declared.Ahead.{Ahead}
-use Rattle.chain.specs.declared.Ahead.the-variants.{Row, Dark}
 
 -- the search through `bytes` bytes that has passed `cells` of them and reads the next
 module _ (screen : List ℕ) (start bytes cells : ℕ) {byte : ℕ} (read : byte ≡ byteAt screen (start + cells)) (more : cells < bytes) where

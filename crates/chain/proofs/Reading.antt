@@ -5,7 +5,7 @@ use native.Mathlib.Nat.{suc-mul, mul-le-mul-left}
 use native.Mathlib.Omega.{arith}
 use lib.ListN.{length}
 use Rattle.chain.specs.Chain.{Chain, Row, Whole, Torn, Dark, capacity, terminator, ended, first, rowFrom, next, rows, rowAt}
-use Rattle.chain.specs.Reading.{reads, readsTo, walkReads, readsAt132, readsAt80, from, screenRead, ReadsAsCounted, ReadsAtMost}
+use Rattle.chain.specs.Reading.{reads, readsTo, walkReads, readsAt132, from, screenRead, ReadsAsCounted, ReadsAtMost}
 use Rattle.chain.specs.declared.Head.{Head}
 use Rattle.chain.specs.declared.Terminator.{Terminator}
 use Rattle.chain.specs.declared.Terminator.the-variants.{After, Missing}

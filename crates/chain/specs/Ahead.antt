@@ -1,7 +1,6 @@
 -- What the code carries from row to row: the head of the row that the chain leads to, or that there is none.
-use Prim.Native.Nat.{ℕ, _+_, _<_}
-use Rattle.chain.specs.Chain.{Chain, Whole, Torn, Dark as DarkRow, places, link, rowFrom}
-use Rattle.chain.specs.Chain.{Row as ARow}
+use Prim.Native.Nat.{_+_, _<_}
+use Rattle.chain.specs.Chain.{Chain, Whole, Torn, Dark as DarkRow, places, link, rowFrom, Row as ARow}
 use Rattle.chain.specs.declared.Ahead.{Ahead}
 use Rattle.chain.specs.declared.Ahead.the-variants.{Row, Dark}
 

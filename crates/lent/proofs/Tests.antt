@@ -16,3 +16,9 @@ pub both-equal : (a x b y : ℕ) → eqb a x && eqb b y ≡ true → (a ≡ x) �
 both-equal a x b y e =
     let both = and-eq-true-iff (eqb a x) (eqb b y) .0 e in
     (eqb-true a x (both .0), eqb-true b y (both .1))
+
+pub three-equal :
+    (a x b y c z : ℕ) → eqb a x && (eqb b y && eqb c z) ≡ true → (a ≡ x) × ((b ≡ y) × (c ≡ z))
+three-equal a x b y c z e =
+    let parts = and-eq-true-iff (eqb a x) (eqb b y && eqb c z) .0 e in
+    (eqb-true a x (parts .0), both-equal b y c z (parts .1))

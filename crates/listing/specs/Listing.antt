@@ -11,7 +11,6 @@ use Rattle.machine.specs.Settings.{columns}
 use Rattle.chain.specs.Chain.{rows}
 use Rattle.picture.specs.Record.{recordBytes}
 use Rattle.picture.specs.Draw.{DrawnPicture, drawn, draw}
-use Rattle.picture.specs.declared.drawing.Drawn.{Drawn}
 use Rattle.listing.specs.Ascii.{ascii}
 use Rattle.listing.specs.Numbers.{decimal, hex}
 

@@ -2,12 +2,12 @@
 -- its memory.
 use Prim.Native.Nat.{ℕ, _+_, _-_, _≤_, _<_}
 use mathlib.Core.Path.{_≡_, refl, subst, sym, _∙_}
-use mathlib.Core.Bool.{Bool, true, false, cond, _&&_, and-false, and-eq-true-iff}
+use mathlib.Core.Bool.{Bool, true, false, cond, and-false, and-eq-true-iff}
 use native.Mathlib.Omega.{arith}
-use borrow.Author.Tests.{le-leb, lt-leb, leb-true, leb-false, eqb-true}
-use lib.Dec.{leb, eqb}
-use Rattle.lent.proofs.Tests.{both-equal}
+use lib.Dec.{leb}
+use borrow.Author.Tests.{le-leb, lt-leb, leb-true}
 use Rattle.lent.specs.Lengths.{sharedBytes, screenBytes, attributeBytes, privateBytes}
+use Rattle.lent.proofs.Tests.{both-equal, three-equal}
 use Rattle.memories.specs.View8088.{within, seen8088, lengths8088}
 use Rattle.memories.specs.ViewZ80.{lengthsZ80, isPrivate}
 use Rattle.memories.specs.declared.view8088.Seen.{Seen}
@@ -59,9 +59,8 @@ pub lent8088 :
     {shared screen attribute : ℕ} → lengths8088 shared screen attribute ≡ true
     → (shared ≡ sharedBytes) × ((screen ≡ screenBytes) × (attribute ≡ attributeBytes))
 unfolding lengths8088
-lent8088 {shared} {screen} {attribute} e =
-    let parts = and-eq-true-iff (eqb shared sharedBytes) _ .0 e in
-    (eqb-true shared sharedBytes (parts .0), both-equal screen screenBytes attribute attributeBytes (parts .1))
+lent8088 {shared} {screen} {attribute} =
+    three-equal shared sharedBytes screen screenBytes attribute attributeBytes
 
 pub lentZ80 : {private shared : ℕ} → lengthsZ80 private shared ≡ true → (private ≡ privateBytes) × (shared ≡ sharedBytes)
 unfolding lengthsZ80

@@ -1,5 +1,5 @@
 -- A row's cells are written while the terminator is searched for: what holds after so many, how it begins, goes on and ends.
-use Prim.Native.Nat.{ℕ, _+_, suc, _-_, _*_, _%_, _≤_, _<_}
+use Prim.Native.Nat.{ℕ, suc, _+_, _-_, _*_, _%_, _≤_, _<_}
 use mathlib.Core.Path.{_≡_, refl, sym, _∙_, ap, subst}
 use mathlib.Core.List.{List, [], _∷_, _++_, append-assoc, append-nil}
 use native.Mathlib.Numerals.{add-one}
@@ -7,11 +7,10 @@ use native.Mathlib.Omega.{arith}
 use lib.ListN.{length, take, set, length-set, length-drop}
 use lib.Seq.{take-all}
 use Rattle.chain.specs.Chain.{byteAt, firstFF}
-use Rattle.chain.specs.declared.Terminator.{Terminator}
 use Rattle.chain.specs.declared.Terminator.the-variants.{After, Missing}
 use Rattle.chain.proofs.Laws.{search-ends, search-goes-on, search-fails}
-use Rattle.picture.specs.Record.{recordBytes, headBytes, recordPairs, pairsOf, cellPairs, fillPairs}
-use Rattle.picture.specs.Walked.{cellsOf, Found}
+use Rattle.picture.specs.Record.{recordBytes, headBytes, recordPairs, cellPairs, fillPairs}
+use Rattle.picture.specs.Walked.{pairsOf, Found}
 use Rattle.picture.proofs.Laws.{pair-stored}
 
 pub record Passed (screen attribute : List ℕ) (start capacity : ℕ) (drawn : List ℕ) (cell : ℕ) : Type 0 where

@@ -2,17 +2,16 @@
 use Prim.Native.Nat.{ℕ, suc, _+_, _*_, _≤_, _<_}
 use mathlib.Core.Path.{_≡_, refl}
 use mathlib.Core.List.{List, [], _∷_, _++_, append-assoc}
-use mathlib.Core.Bool.{Bool, true, false, cond, and-eq-true-iff}
+use mathlib.Core.Bool.{Bool, true, false, cond}
 use native.Mathlib.Omega.{arith}
-use borrow.Author.Tests.{eqb-true}
-use lib.Dec.{eqb}
-use lib.ListN.{length, take, drop, set, length-set, length-drop}
+use lib.ListN.{length, take, set, length-set, length-drop}
 use lib.Seq.{take-suc-set, drop-set-add}
 use Rattle.lent.specs.Lengths.{screenBytes, attributeBytes, pictureBytes}
-use Rattle.lent.proofs.Tests.{both-equal}
 use Rattle.machine.specs.declared.Machine.{Machine}
 use Rattle.machine.specs.Settings.{columns}
-use Rattle.picture.specs.Record.{headBytes, recordPairs, pairsOf}
+use Rattle.lent.proofs.Tests.{three-equal}
+use Rattle.picture.specs.Record.{headBytes, recordPairs}
+use Rattle.picture.specs.Walked.{pairsOf}
 use Rattle.picture.specs.Draw.{lengthsPicture}
 
 -- a pair is stored after the pairs before it
@@ -45,9 +44,8 @@ pub lentPicture :
     {screen attribute picture : ℕ} → lengthsPicture screen attribute picture ≡ true
     → (screen ≡ screenBytes) × ((attribute ≡ attributeBytes) × (picture ≡ pictureBytes))
 unfolding lengthsPicture
-lentPicture {screen} {attribute} {picture} e =
-    let parts = and-eq-true-iff (eqb screen screenBytes) _ .0 e in
-    (eqb-true screen screenBytes (parts .0), both-equal attribute attributeBytes picture pictureBytes (parts .1))
+lentPicture {screen} {attribute} {picture} =
+    three-equal screen screenBytes attribute attributeBytes picture pictureBytes
 
 -- a line of either setting fits the pairs of a record
 pub columns-fit : (m : Machine) → columns m ≤ recordPairs

@@ -1,24 +1,23 @@
 -- A row whose terminator was searched for: which row it is, its record, what it read and what it leads to.
-use Prim.Native.Nat.{ℕ, _+_, _-_, _*_, _≤_}
-use mathlib.Core.Path.{_≡_, refl, sym, _∙_, ap}
-use mathlib.Core.List.{List, _++_}
+use Prim.Native.Nat.{ℕ, _+_, _≤_}
+use mathlib.Core.Path.{_≡_, sym, _∙_, ap}
+use mathlib.Core.List.{List}
 use native.Mathlib.Omega.{arith}
-use lib.ListN.{take}
-use Rattle.chain.specs.Chain.{Chain, capacity, firstFF, terminator, ended, link, rowFrom}
+use Rattle.chain.specs.Chain.{Chain, capacity, firstFF, terminator, ended, rowFrom}
 use Rattle.chain.specs.Reading.{reads}
 use Rattle.chain.specs.declared.Head.{Head}
 use Rattle.chain.specs.declared.Terminator.{Terminator}
 use Rattle.chain.specs.declared.Terminator.the-variants.{After, Missing}
 use Rattle.chain.specs.declared.Ahead.the-variants.{Row, Dark}
-use Rattle.chain.proofs.Laws.{found-within, capacity-within}
-use Rattle.picture.specs.Record.{recordPairs, pairsOf, fillPairs, header, count, cellPairs, recordOf}
-use Rattle.picture.specs.Walked.{cellsOf, Found, walked, drawnAhead}
-use Rattle.picture.specs.declared.records.Walked.{Walked}
+use Rattle.chain.proofs.Laws.{found-within}
+use Rattle.picture.specs.Record.{recordPairs, recordOf}
+use Rattle.picture.specs.Walked.{Found, finished, wholeWalked, walked, drawnAhead}
 
-pub cells-within :
+-- the cells of a whole row are no more than a record's pairs
+pub cells-fit :
     {screen attribute drawn : List ℕ} {start cap n : ℕ} {t : Terminator}
-    → Found screen attribute start cap drawn t → t ≡ After n → n ≤ cap
-cells-within {screen} {start = start} {cap} f e =
+    → Found screen attribute start cap drawn t → t ≡ After n → cap ≤ recordPairs → n ≤ recordPairs
+cells-fit {screen} {start = start} {cap} f e h =
     omega (arith, found-within screen start 0 (cap + 1) (sym (f .answer) ∙ e))
 
 module _
@@ -38,19 +37,15 @@ module _
     unfolding reads
     torn-walked = rw (row-found, torn, is)
 
-    pub torn-drawn :
-        header head 255 ++ (take (2 * cap) (pairsOf drawn) ++ fillPairs (recordPairs - cap)) ≡ drawnAhead c (Row head)
+    pub torn-drawn : finished head 255 cap drawn ≡ drawnAhead c (Row head)
     unfolding recordOf
     torn-drawn = rw (row-found, torn, rw torn at (f .written), is)
 
   module _ {n : ℕ} (whole : t ≡ After n) where
-    pub whole-walked :
-        {to : Head} → to ≡ link (c .screen) (c .attribute) (head .start + n)
-        → record { reads = n + 3; next = Row to } ≡ walked c (Row head)
+    pub whole-walked : wholeWalked (c .screen) (c .attribute) head n ≡ walked c (Row head)
     unfolding reads
-    whole-walked l = rw (row-found, whole, l)
+    whole-walked = rw (row-found, whole)
 
-    pub whole-drawn :
-        header head n ++ (take (2 * n) (pairsOf drawn) ++ fillPairs (recordPairs - n)) ≡ drawnAhead c (Row head)
+    pub whole-drawn : finished head n n drawn ≡ drawnAhead c (Row head)
     unfolding recordOf
     whole-drawn = rw (row-found, whole, rw whole at (f .written))

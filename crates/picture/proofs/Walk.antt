@@ -1,6 +1,6 @@
 -- The walk over the rows: what holds with so many drawn, how it begins, goes on and ends.
 use Prim.Native.Nat.{ℕ, _+_, _-_, _*_, _≤_, _<_}
-use mathlib.Core.Path.{_≡_, refl, sym, _∙_, ap, subst}
+use mathlib.Core.Path.{_≡_, refl, sym, _∙_, ap}
 use mathlib.Core.List.{List, _++_, append-assoc}
 use native.Mathlib.Numerals.{add-one}
 use native.Mathlib.Omega.{arith}
@@ -15,7 +15,7 @@ use Rattle.chain.specs.declared.Ahead.{Ahead}
 use Rattle.chain.specs.declared.Ahead.the-variants.{Row}
 use Rattle.chain.proofs.Laws.{leads-on, placed-after}
 use Rattle.chain.proofs.Reading.{reads-fit}
-use Rattle.picture.specs.Record.{recordBytes, recordPairs, recordOf, pictureTo, pictureOf}
+use Rattle.picture.specs.Record.{recordBytes, recordPairs, pictureTo, pictureOf}
 use Rattle.picture.specs.Walked.{walked, drawnAhead}
 use Rattle.picture.specs.declared.records.Walked.{Walked}
 

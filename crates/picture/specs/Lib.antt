@@ -1,3 +1,4 @@
 pub mod Record
 pub mod Walked
 pub mod Draw
+pub mod Counted

@@ -1,8 +1,7 @@
 -- Document 01, "The picture": the record of a row, and the picture.
 use Prim.Native.Nat.{ℕ, zero, suc, _+_, _-_, _/_, _%_}
 use mathlib.Core.List.{List, [], _∷_, _++_}
-use lib.ListN.{drop}
-use Rattle.chain.specs.Chain.{Chain, Row, Whole, Torn, Dark, byteAt, capacity, first, rows, rowAt}
+use Rattle.chain.specs.Chain.{Chain, Row, Whole, Torn, Dark, byteAt, capacity, rows, rowAt}
 use Rattle.chain.specs.declared.Head.{Head}
 
 -- "24 row records of 268 bytes: start (two bytes, high byte first, the house habit), kind 0 to 7, count, then 132 pairs of
@@ -16,10 +15,6 @@ recordPairs = 132
 -- the bytes ahead of the pairs
 abbrev pub headBytes : ℕ
 headBytes = 4
-
--- the bytes of the pairs
-abbrev pub pairsOf : List ℕ → List ℕ
-pairsOf bytes = drop headBytes bytes
 
 -- the pairs of so many cells
 unfoldable pub cellPairs : (screen attribute : List ℕ) → (start cells : ℕ) → List ℕ
@@ -56,8 +51,9 @@ header head count = head .start / 256 ∷ head .start % 256 ∷ head .kind ∷ c
 
 unfoldable pub recordOf : Chain → Row → List ℕ
 recordOf c row =
+    let cells = cellsShown c row in
     header (headOf row) (count row)
-    ++ (cellPairs (c .screen) (c .attribute) (headOf row .start) (cellsShown c row) ++ fillPairs (recordPairs - cellsShown c row))
+    ++ (cellPairs (c .screen) (c .attribute) (headOf row .start) cells ++ fillPairs (recordPairs - cells))
 
 -- the records of the first rows, and of all
 unfoldable pub pictureTo : Chain → ℕ → List ℕ

@@ -1,13 +1,13 @@
 // The record of one row: its start, kind and count, and the pairs of character and attribute.
 ghost use Prim.Native.Nat.{_+_, _*_, _-_, _≤_, _<_};
 ghost use mathlib.Core.Path.{_≡_};
-ghost use mathlib.Core.List.{_∷_, _++_};
+ghost use mathlib.Core.List.{_++_};
 ghost use lib.ListN.{length, take};
 ghost use Rattle.lent.specs.Lengths.{screenBytes, attributeBytes};
 ghost use Rattle.chain.specs.Chain.{chain, places};
 ghost use Rattle.chain.specs.Ahead.{Placed};
-ghost use Rattle.picture.specs.Record.{recordBytes, headBytes, recordPairs, pairsOf, fillPairs, header};
-ghost use Rattle.picture.specs.Walked.{Found, walked, drawnAhead};
+ghost use Rattle.picture.specs.Record.{recordBytes, headBytes, recordPairs, fillPairs, header};
+ghost use Rattle.picture.specs.Walked.{pairsOf, Found, finished, wholeWalked, walked, drawnAhead};
 use chain::Ahead;
 use chain::Head;
 use chain::Terminator;
@@ -28,9 +28,9 @@ pub struct Walked {
     pub next: Ahead,
 }
 
-// The search for the terminator writes the pair of each byte that it passes, so that each byte is
+// Finds the terminator. The search writes the pair of each byte that it passes, so that each byte is
 // read once.
-fn draw_cells(
+fn draw_to_terminator(
     screen: &[u8],
     attribute: &[u8],
     start: usize,
@@ -91,11 +91,33 @@ fn write_head(into: &mut [u8], head: Head, count: u8)
 fn finish(into: &mut [u8], head: Head, count: u8, cells: usize)
     requires { ⌜ (head .start < places) × (cells ≤ recordPairs) ⌝ }
     requires { ⌜ length (now into) ≡ recordBytes ⌝ }
-    ensures { λ _. ⌜ now (into .exit)
-        ≡ header head count ++ (take (2 * cells) (pairsOf (now (into .entry))) ++ fillPairs (recordPairs - cells)) ⌝ }
+    ensures { λ _. ⌜ now (into .exit) ≡ finished head count cells (now (into .entry)) ⌝ }
 {
     fill(into, cells);
     write_head(into, head, count);
+}
+
+// A row that has its terminator: the link leads on.
+fn end_row(
+    screen: &[u8],
+    attribute: &[u8],
+    head: Head,
+    cells: usize,
+    into: &mut [u8],
+) -> Walked
+    requires { ⌜ length (now screen) ≡ screenBytes ⌝ }
+    requires { ⌜ length (now attribute) ≡ attributeBytes ⌝ }
+    requires { ⌜ (head .start < places) × (cells ≤ recordPairs) ⌝ }
+    requires { ⌜ length (now into) ≡ recordBytes ⌝ }
+    ensures { λ r. ⌜ r ≡ wholeWalked (now (screen .entry)) (now (attribute .entry)) head cells ⌝ }
+    ensures { λ _. ⌜ now (into .exit) ≡ finished head cells cells (now (into .entry)) ⌝ }
+{
+    let next = chain::link(screen, attribute, head.start + cells);
+    finish(into, head, cells as u8, cells);
+    Walked {
+        reads: cells + 3,
+        next: Ahead::Row(next),
+    }
 }
 
 fn draw_row(
@@ -112,20 +134,17 @@ fn draw_row(
     ensures { λ r. ⌜ r ≡ walked (chain columns (now (screen .entry)) (now (attribute .entry))) (Ahead.Row head) ⌝ }
     ensures { λ _. ⌜ now (into .exit) ≡ drawnAhead (chain columns (now (screen .entry)) (now (attribute .entry))) (Ahead.Row head) ⌝ }
 {
-    let start = head.start;
     let capacity = chain::capacity(columns, head.kind);
-    let Terminator::After(cells) = draw_cells(screen, attribute, start, capacity, into) else {
+    let Terminator::After(cells) =
+        draw_to_terminator(screen, attribute, head.start, capacity, into)
+    else {
         finish(into, head, TORN, capacity);
         return Walked {
             reads: capacity + 1,
             next: Ahead::Dark,
         };
     };
-    finish(into, head, cells as u8, cells);
-    Walked {
-        reads: cells + 3,
-        next: Ahead::Row(chain::link(screen, attribute, start + cells)),
-    }
+    end_row(screen, attribute, head, cells, into)
 }
 
 // The record of the row that lies ahead.

@@ -20,6 +20,10 @@ use Rattle.shadow.proofs.read_shadow.Reads as read-shadow
 use Rattle.shadow.proofs.write_shadow.Reads as write-shadow
 use Rattle.diagnostic.specs.Diagnostic.{writtenPort}
 use Rattle.ports.proofs.write_port.Reads as write-port
+use Rattle.picture.specs.Draw.{drawn}
+use Rattle.picture.proofs.drawing.draw.Reads as draw
+use Rattle.listing.specs.Listing.{listed}
+use Rattle.listing.proofs.lines.list_rows.Reads as list-rows
 
 pub no-second : {A : Type 0} {promised one other : A} → one ≡ promised → other ≡ promised → one ≡ other
 no-second p q = p ∙ sym q
@@ -66,3 +70,10 @@ write-shadow-once κs a r r′ s s′ = no-second
 
 pub write-port-once : Once write-port.Post (λ κs r s. writtenPort r (now (s .1 .0)) (now (s .1 .1 .0)))
 write-port-once κs a r r′ s s′ = no-second
+
+pub draw-once : Once draw.Post (λ κs r s. drawn r (now (s .1 .1 .1 .0)))
+draw-once κs a r r′ s s′ = no-second
+
+-- the length of the text follows from the first clause of this promise
+pub list-rows-once : Once list-rows.Post (λ κs r s. listed r (now (s .1 .1 .1 .0)) (now (s .1 .1 .1 .1 .0)))
+list-rows-once κs a r r′ s s′ p q = no-second (p .0) (q .0)

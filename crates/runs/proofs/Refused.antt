@@ -21,8 +21,9 @@ use Rattle.dc011.specs.Dc011.{writeDc011}
 use Rattle.dc012.specs.Dc012.{writeDc012}
 use Rattle.diagnostic.specs.Diagnostic.{WrittenPort, writtenPort, writeDiagnostic, rises}
 use Rattle.ports.specs.Ports.{lengthsNvm, watched, writePort}
+use Rattle.picture.specs.Draw.{lengthsPicture, DrawnPicture}
 use Rattle.runs.proofs.Choice.{either}
-use Rattle.runs.specs.World.{World, Call, Read8088, Store8088, ReadZ80, StoreZ80, ReadShadow, WriteShadow, WritePort, VerticalTick, left8088, leftZ80, leftPort, after, answer}
+use Rattle.runs.specs.World.{World, Call, Read8088, Store8088, ReadZ80, StoreZ80, ReadShadow, WriteShadow, WritePort, VerticalTick, Draw, left8088, leftZ80, leftPort, leftDraw, after, answer}
 use Rattle.runs.specs.Refused.{ChangesNothing}
 
 -- an answer that is refused reads no byte
@@ -123,3 +124,10 @@ changes-nothing (WriteShadow p b) w h = (
     KeptShadow left = (left .refusal ≡ accepted → ⊥) → leftPort w (w .machine) (left .shadow) (w .nvm) ≡ w
 changes-nothing (WritePort p k) w h = (port-kept w p k h, refl)
 changes-nothing VerticalTick w h = absurd (h refl)
+changes-nothing Draw w h =
+    either KeptDraw (lengthsPicture (length (w .screen)) (length (w .attribute)) (length (w .picture))) _ _
+    (λ _ g. absurd (g refl)) (λ _ g. (refl, refl)) h
+  where
+    KeptDraw : DrawnPicture → Type 0
+    KeptDraw left =
+        (left .answer .refusal ≡ accepted → ⊥) → (leftDraw w (left .picture) ≡ w) × (left .answer .reads ≡ 0)

@@ -15,7 +15,7 @@ use Rattle.memories.specs.declared.view8088.Seen.{Seen}
 use Rattle.memories.specs.declared.view8088.Seen.the-variants.{Shared, Screen, Attribute, Nowhere}
 use Rattle.memories.specs.ViewZ80.{isPrivate, lengthsZ80, seenZ80, StoredZ80, storeZ80, storedZ80}
 use Rattle.memories.proofs.Laws.{lentZ80, placed}
-use Rattle.runs.specs.World.{World, Call, Read8088, Store8088, ReadZ80, StoreZ80, ReadShadow, WriteShadow, WritePort, VerticalTick, left8088, leftZ80, after, answer}
+use Rattle.runs.specs.World.{World, Call, Read8088, Store8088, ReadZ80, StoreZ80, ReadShadow, WriteShadow, WritePort, VerticalTick, Draw, left8088, leftZ80, after, answer}
 use Rattle.runs.proofs.Choice.{either}
 use Rattle.runs.specs.Z80.{OnlyAt, ChangesOneByte, OnlyItsOwn, Agree, isZ80, unseenByZ80, Turn, Both, First, Second, first, second, turned, heard, ended, answers, SameAnswers}
 
@@ -67,18 +67,28 @@ only-its-own (StoreZ80 a b) w h =
       attribute = refl;
       nvm = refl;
       shadow = refl;
+      picture = refl;
     }
   where
     Below : StoredZ80 → Type 0
     Below left = take 0x0800 (left .shared) ≡ take 0x0800 (w .shared)
 only-its-own (ReadZ80 a) w h =
-    record { machine = refl; below0800 = refl; screen = refl; attribute = refl; nvm = refl; shadow = refl }
+    record {
+      machine = refl;
+      below0800 = refl;
+      screen = refl;
+      attribute = refl;
+      nvm = refl;
+      shadow = refl;
+      picture = refl;
+    }
 only-its-own (Read8088 a) w h = absurd (false≢true h)
 only-its-own (Store8088 a b) w h = absurd (false≢true h)
 only-its-own (ReadShadow p) w h = absurd (false≢true h)
 only-its-own (WriteShadow p b) w h = absurd (false≢true h)
 only-its-own (WritePort p k) w h = absurd (false≢true h)
 only-its-own VerticalTick w h = absurd (false≢true h)
+only-its-own Draw w h = absurd (false≢true h)
 
 -- what lies from 0800 up is the same byte at each such address
 same-from :
@@ -145,6 +155,7 @@ module _ (w v : World) (same : Agree w v) where
   z80 (WriteShadow p b) h = absurd (false≢true h)
   z80 (WritePort p k) h = absurd (false≢true h)
   z80 VerticalTick h = absurd (false≢true h)
+  z80 Draw h = absurd (false≢true h)
 
 agree-sym : {w v : World} → Agree w v → Agree v w
 agree-sym h =
@@ -196,6 +207,7 @@ unseen (ReadShadow p) w h = agree-refl w
 unseen (WriteShadow p b) w h = record { private = refl; shared-length = refl; from0800 = refl }
 unseen (WritePort p k) w h = record { private = refl; shared-length = refl; from0800 = refl }
 unseen VerticalTick w h = record { private = refl; shared-length = refl; from0800 = refl }
+unseen Draw w h = record { private = refl; shared-length = refl; from0800 = refl }
 unseen (ReadZ80 a) w h = absurd (false≢true h)
 unseen (StoreZ80 a b) w h = absurd (false≢true h)
 

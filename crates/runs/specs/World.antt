@@ -11,6 +11,7 @@ use Rattle.memories.specs.ViewZ80.{readZ80, storeZ80, StoredZ80}
 use Rattle.shadow.specs.Shadow.{readShadow, writeShadow, WrittenShadow}
 use Rattle.diagnostic.specs.Diagnostic.{WrittenPort}
 use Rattle.ports.specs.Ports.{writePort}
+use Rattle.picture.specs.Draw.{draw}
 
 -- the machine and the memories that a user keeps and lends
 pub record World : Type 0 where
@@ -21,6 +22,7 @@ pub record World : Type 0 where
   pub attribute : List ℕ
   pub nvm : List ℕ
   pub shadow : List ℕ
+  pub picture : List ℕ
 
 -- a call with its numbers
 pub data Call : Type 0 where
@@ -32,6 +34,7 @@ pub data Call : Type 0 where
   WriteShadow : (place value : ℕ) → Call
   WritePort : (port code : ℕ) → Call
   VerticalTick : Call
+  Draw : Call
 
 -- the world with what a call left in place of what it was lent
 abbrev pub left8088 : World → Stored8088 → World
@@ -44,6 +47,7 @@ left8088 w left =
       attribute = left .attribute;
       nvm = w .nvm;
       shadow = w .shadow;
+      picture = w .picture;
     }
 
 abbrev pub leftZ80 : World → StoredZ80 → World
@@ -56,6 +60,7 @@ leftZ80 w left =
       attribute = w .attribute;
       nvm = w .nvm;
       shadow = w .shadow;
+      picture = w .picture;
     }
 
 abbrev pub leftPort : World → Machine → List ℕ → List ℕ → World
@@ -68,6 +73,20 @@ leftPort w machine shadow nvm =
       attribute = w .attribute;
       nvm = nvm;
       shadow = shadow;
+      picture = w .picture;
+    }
+
+abbrev pub leftDraw : World → List ℕ → World
+leftDraw w picture =
+    record {
+      machine = w .machine;
+      shared = w .shared;
+      private = w .private;
+      screen = w .screen;
+      attribute = w .attribute;
+      nvm = w .nvm;
+      shadow = w .shadow;
+      picture = picture;
     }
 
 -- the world after a call
@@ -82,8 +101,10 @@ after (WritePort port code) w =
     let left = writePort (w .machine) (w .shadow) (w .nvm) port code in
     leftPort w (left .answer .machine) (left .shadow) (left .nvm)
 after VerticalTick w = leftPort w (verticalTick (w .machine)) (w .shadow) (w .nvm)
+after Draw w = leftDraw w (draw (w .machine) (w .screen) (w .attribute) (w .picture) .picture)
 
--- what a call answers: its number of refusal and the byte read, 0 where it reads none
+-- what a call answers: its number of refusal and its other number, the byte read or the bytes that the walk read, 0 where it
+-- has none
 abbrev pub answer : Call → World → ByteRead
 answer (Read8088 address) w = read8088 (w .shared) (w .screen) (w .attribute) address
 answer (Store8088 address byte) w = readRefused (store8088 (w .shared) (w .screen) (w .attribute) address byte .refusal)
@@ -93,3 +114,6 @@ answer (ReadShadow place) w = readShadow (w .shadow) place
 answer (WriteShadow place value) w = readRefused (writeShadow (w .shadow) place value .refusal)
 answer (WritePort port code) w = readRefused (writePort (w .machine) (w .shadow) (w .nvm) port code .answer .refusal)
 answer VerticalTick w = readRefused accepted
+answer Draw w =
+    let left = draw (w .machine) (w .screen) (w .attribute) (w .picture) in
+    record { refusal = left .answer .refusal; byte = left .answer .reads }

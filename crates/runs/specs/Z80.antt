@@ -8,7 +8,7 @@ use lib.Dec.{eqb, ltb}
 use Rattle.lent.specs.Lengths.{sharedBytes, privateBytes}
 use Rattle.lent.specs.declared.ByteRead.{ByteRead}
 use Rattle.memories.specs.ViewZ80.{isPrivate, lengthsZ80, storeZ80}
-use Rattle.runs.specs.World.{World, Call, Read8088, Store8088, ReadZ80, StoreZ80, ReadShadow, WriteShadow, WritePort, VerticalTick, after, answer}
+use Rattle.runs.specs.World.{World, Call, Read8088, Store8088, ReadZ80, StoreZ80, ReadShadow, WriteShadow, WritePort, VerticalTick, Draw, after, answer}
 
 -- a memory as it was but for one place, where it holds a byte if the test holds
 abbrev pub OnlyAt : Bool → ℕ → ℕ → List ℕ → List ℕ → Type 0
@@ -39,6 +39,7 @@ isZ80 (ReadShadow place) = false
 isZ80 (WriteShadow place value) = false
 isZ80 (WritePort port code) = false
 isZ80 VerticalTick = false
+isZ80 Draw = false
 
 -- "The Z80 reads and writes only its own 2 KB and the 62 KB that it shares": of the world a Z80 call leaves all but private
 -- memory and shared memory from 0800 up
@@ -49,6 +50,7 @@ pub record LeavesTheRest (w v : World) : Type 0 where
   pub attribute : v .attribute ≡ w .attribute
   pub nvm : v .nvm ≡ w .nvm
   pub shadow : v .shadow ≡ w .shadow
+  pub picture : v .picture ≡ w .picture
 
 abbrev pub OnlyItsOwn : Type 0
 OnlyItsOwn = (call : Call) (w : World) → isZ80 call ≡ true → LeavesTheRest w (after call w)
@@ -63,6 +65,7 @@ unseenByZ80 (ReadShadow place) = true
 unseenByZ80 (WriteShadow place value) = true
 unseenByZ80 (WritePort port code) = true
 unseenByZ80 VerticalTick = true
+unseenByZ80 Draw = true
 
 -- two runs side by side: a Z80 call that both make, or a call of one of them alone that the Z80 cannot see
 pub data Turn : Type 0 where

@@ -1,6 +1,6 @@
 use mathlib.Core.Path.{refl}
-use Rattle.chain.specs.Chain.{byteAt}
 use borrow.Author.Needs.{needs}
+use Rattle.chain.specs.Chain.{byteAt}
 use Rattle.chain.proofs.byte_at.Statement.{statement}
 use Rattle.chain.proofs.byte_at.Tie as tie
 

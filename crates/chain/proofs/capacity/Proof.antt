@@ -1,7 +1,6 @@
 use native.Mathlib.Omega.{arith}
 use borrow.Author.Tests.{lt-ltb, le-ltb}
 use Rattle.chain.specs.Chain.{capacity}
-use borrow.Author.Needs.{needs}
 use Rattle.chain.proofs.capacity.Statement.{statement}
 use Rattle.chain.proofs.capacity.Tie as tie
 

@@ -1,5 +1,5 @@
-use Rattle.chain.specs.Chain.{link}
 use borrow.Author.Needs.{needs}
+use Rattle.chain.specs.Chain.{link}
 use Rattle.chain.proofs.link.Statement.{statement}
 use Rattle.chain.proofs.link.Tie as tie
 

@@ -1,9 +1,9 @@
 use mathlib.Core.Path.{_∙_, ap}
+use borrow.Author.Tests.{eq-eqb, ne-eqb}
+use borrow.Author.Needs.{needs}
 use Rattle.machine.specs.declared.Machine.{Machine}
 use Rattle.picture.specs.Draw.{draw}
-use borrow.Author.Tests.{eq-eqb, ne-eqb}
 use Rattle.listing.specs.Listing.{drawing}
-use borrow.Author.Needs.{needs}
 use Rattle.listing.proofs.lines.draw_read.Statement.{statement}
 use Rattle.listing.proofs.lines.draw_read.Tie as tie
 

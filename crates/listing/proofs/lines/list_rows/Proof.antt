@@ -1,12 +1,11 @@
 use Prim.Native.Nat.{_≤_}
+use mathlib.Core.Path.{sym, _≡_, _∙_, ap}
+use native.Mathlib.Omega.{arith}
 use lib.ListN.{length}
 use lib.Seq.{length-take-le}
-use mathlib.Core.Path.{sym}
-use mathlib.Core.Path.{_≡_, _∙_, ap}
-use native.Mathlib.Omega.{arith}
-use Rattle.listing.proofs.Laws.{all-listed}
-use Rattle.machine.specs.Settings.{columns}
 use borrow.Author.Needs.{needs}
+use Rattle.machine.specs.Settings.{columns}
+use Rattle.listing.proofs.Laws.{all-listed}
 use Rattle.listing.proofs.lines.list_rows.Statement.{statement}
 use Rattle.listing.proofs.lines.list_rows.Tie as tie
 

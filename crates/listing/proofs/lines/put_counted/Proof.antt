@@ -1,8 +1,8 @@
 use native.Mathlib.Omega.{arith}
 use borrow.Author.Tests.{eq-eqb, ne-eqb}
+use borrow.Author.Needs.{needs}
 use Rattle.listing.specs.Listing.{counted}
 use Rattle.listing.specs.Ascii.{ascii}
-use borrow.Author.Needs.{needs}
 use Rattle.listing.proofs.lines.put_counted.Statement.{statement}
 use Rattle.listing.proofs.lines.put_counted.Tie as tie
 

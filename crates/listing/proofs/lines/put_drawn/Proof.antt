@@ -1,8 +1,8 @@
 use native.Mathlib.Omega.{arith}
 use borrow.Author.Tests.{eq-eqb, ne-eqb}
+use borrow.Author.Needs.{needs}
 use Rattle.listing.specs.Listing.{textOf}
 use Rattle.listing.proofs.Laws.{_then_}
-use borrow.Author.Needs.{needs}
 use Rattle.listing.proofs.lines.put_drawn.Statement.{statement}
 use Rattle.listing.proofs.lines.put_drawn.Tie as tie
 

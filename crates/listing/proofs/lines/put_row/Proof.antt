@@ -1,8 +1,8 @@
 use native.Mathlib.Omega.{arith}
 use borrow.Author.Tests.{eq-eqb, ne-eqb}
+use borrow.Author.Needs.{needs}
 use Rattle.listing.specs.Listing.{lineOf}
 use Rattle.listing.proofs.Laws.{put-none}
-use borrow.Author.Needs.{needs}
 use Rattle.listing.proofs.lines.put_row.Statement.{statement}
 use Rattle.listing.proofs.lines.put_row.Tie as tie
 

@@ -1,8 +1,8 @@
 use native.Mathlib.Omega.{arith}
+use borrow.Author.Needs.{needs}
 use Rattle.listing.specs.Ascii.{ascii}
 use Rattle.listing.specs.Listing.{rowAndStart}
 use Rattle.listing.proofs.Laws.{_then_}
-use borrow.Author.Needs.{needs}
 use Rattle.listing.proofs.lines.put_row_and_start.Statement.{statement}
 use Rattle.listing.proofs.lines.put_row_and_start.Tie as tie
 

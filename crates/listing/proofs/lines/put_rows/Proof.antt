@@ -2,11 +2,11 @@ use Prim.Native.Nat.{_+_, _-_, _*_, _≤_}
 use mathlib.Core.Path.{_≡_}
 use native.Mathlib.Numerals.{add-one}
 use native.Mathlib.Omega.{arith}
+use borrow.Author.Needs.{needs}
 use Rattle.chain.specs.Chain.{rows}
 use Rattle.listing.specs.Listing.{lineMost, linesTo}
 use Rattle.listing.specs.Put.{Put}
 use Rattle.listing.proofs.Laws.{_then_, put-none}
-use borrow.Author.Needs.{needs}
 use Rattle.listing.proofs.lines.put_rows.Statement.{statement}
 use Rattle.listing.proofs.lines.put_rows.Tie as tie
 

@@ -1,6 +1,6 @@
 use borrow.Author.Tests.{lt-ltb, le-ltb}
-use Rattle.listing.specs.Numbers.{digit}
 use borrow.Author.Needs.{needs}
+use Rattle.listing.specs.Numbers.{digit}
 use Rattle.listing.proofs.put.digit.Statement.{statement}
 use Rattle.listing.proofs.put.digit.Tie as tie
 

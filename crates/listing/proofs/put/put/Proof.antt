@@ -2,9 +2,9 @@ use Prim.Native.Nat.{_+_, _-_, _≤_}
 use native.Mathlib.Nat.{add-zero}
 use native.Mathlib.Omega.{arith}
 use lib.ListN.{length, take}
+use borrow.Author.Needs.{needs}
 use Rattle.listing.specs.Put.{Put}
 use Rattle.listing.proofs.Laws.{put-none, one-more, all-put}
-use borrow.Author.Needs.{needs}
 use Rattle.listing.proofs.put.put.Statement.{statement}
 use Rattle.listing.proofs.put.put.Tie as tie
 

@@ -1,7 +1,7 @@
 use native.Mathlib.Omega.{arith}
+use borrow.Author.Needs.{needs}
 use Rattle.listing.specs.Numbers.{hex}
 use Rattle.listing.proofs.Laws.{_then_}
-use borrow.Author.Needs.{needs}
 use Rattle.listing.proofs.put.put_hex.Statement.{statement}
 use Rattle.listing.proofs.put.put_hex.Tie as tie
 

@@ -1,8 +1,8 @@
 use native.Mathlib.Omega.{arith}
 use borrow.Author.Tests.{lt-ltb, le-ltb}
+use borrow.Author.Needs.{needs}
 use Rattle.listing.specs.Numbers.{reached}
 use Rattle.listing.proofs.Laws.{put-none}
-use borrow.Author.Needs.{needs}
 use Rattle.listing.proofs.put.put_reached.Statement.{statement}
 use Rattle.listing.proofs.put.put_reached.Tie as tie
 

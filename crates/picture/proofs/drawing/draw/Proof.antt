@@ -1,12 +1,12 @@
 use Prim.Native.Nat.{_≤_}
 use native.Mathlib.Nat.{le-refl}
 use native.Mathlib.Omega.{arith}
+use borrow.Author.Needs.{needs}
 use Rattle.chain.specs.Chain.{chain, rows}
 use Rattle.chain.proofs.Reading.{reads-fit}
-use Rattle.picture.specs.Record.{recordPairs}
 use Rattle.lent.proofs.Tests.{held, failed}
+use Rattle.picture.specs.Record.{recordPairs}
 use Rattle.picture.proofs.Laws.{lentPicture, columns-fit}
-use borrow.Author.Needs.{needs}
 use Rattle.picture.proofs.drawing.draw.Statement.{statement}
 use Rattle.picture.proofs.drawing.draw.Tie as tie
 

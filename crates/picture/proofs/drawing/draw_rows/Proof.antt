@@ -1,10 +1,9 @@
-use mathlib.Core.Path.{_∙_}
 use Prim.Native.Nat.{_-_}
+use mathlib.Core.Path.{_∙_}
 use native.Mathlib.Omega.{arith}
-use Rattle.lent.specs.Lengths.{pictureBytes}
+use borrow.Author.Needs.{needs}
 use Rattle.chain.specs.Chain.{chain, rows}
 use Rattle.picture.proofs.Walk.{Walking, walk-begins, part-lent, sum-fits, walk-goes-on, walk-ends}
-use borrow.Author.Needs.{needs}
 use Rattle.picture.proofs.drawing.draw_rows.Statement.{statement}
 use Rattle.picture.proofs.drawing.draw_rows.Tie as tie
 

@@ -1,6 +1,5 @@
 use borrow.Author.Tests.{eq-eqb, ne-eqb}
 use Rattle.picture.specs.Draw.{lengthsPicture}
-use borrow.Author.Needs.{needs}
 use Rattle.picture.proofs.drawing.lengths_picture.Statement.{statement}
 use Rattle.picture.proofs.drawing.lengths_picture.Tie as tie
 

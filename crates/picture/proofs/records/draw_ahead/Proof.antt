@@ -1,11 +1,11 @@
 use mathlib.Core.Path.{_∙_, sym, ap, subst}
 use native.Mathlib.Omega.{arith}
+use borrow.Author.Needs.{needs}
 use Rattle.chain.specs.Chain.{chain}
 use Rattle.chain.specs.Reading.{reads}
 use Rattle.chain.specs.Ahead.{Placed}
 use Rattle.picture.specs.Record.{cellPairs, recordOf}
 use Rattle.picture.specs.Walked.{walked, drawnAhead}
-use borrow.Author.Needs.{needs}
 use Rattle.picture.proofs.records.draw_ahead.Statement.{statement}
 use Rattle.picture.proofs.records.draw_ahead.Tie as tie
 

@@ -1,18 +1,16 @@
 use mathlib.Core.Path.{_∙_}
-use native.Mathlib.Omega.{arith}
-use Rattle.chain.specs.Chain.{chain}
-use Rattle.picture.proofs.Rows.{cells-within, torn-walked, torn-drawn, whole-walked, whole-drawn}
+use native.Mathlib.Nat.{le-trans}
 use borrow.Author.Needs.{needs}
+use Rattle.chain.specs.Chain.{chain}
+use Rattle.picture.proofs.Rows.{cells-fit, torn-walked, torn-drawn, whole-walked, whole-drawn}
 use Rattle.picture.proofs.records.draw_row.Statement.{statement}
 use Rattle.picture.proofs.records.draw_row.Tie as tie
 
 capacity-requires : tie.Need-capacity-requires
 capacity-requires c κs = search needs
 
-draw-cells-requires : tie.Need-draw-cells-requires
-draw-cells-requires c κs =
-    let p = c .before .before .before .before .before .pre in
-    (p .0, (p .1 .0, ((p .1 .1 .0 .1, omega arith), p .1 .1 .1)))
+draw-to-terminator-requires : tie.Need-draw-to-terminator-requires
+draw-to-terminator-requires c κs = search needs
 
 enum-known-cells : tie.Need-enum-known-cells
 enum-known-cells c = search needs
@@ -21,13 +19,10 @@ enum-told : tie.Need-enum-told
 enum-told c = search needs
 
 finish-requires : tie.Need-finish-requires
-finish-requires c κs =
-    let d = c .before .before .before .before .before in
-    let p = d .before .before .before .before .before .before .pre in
-    ((p .1 .1 .0 .1, omega arith), d .draw-cells .kept .1 .1 .1 .1 .0 ∙ p .1 .1 .1)
+finish-requires c κs = search needs
 
-add-t15 : tie.Need-add-t15
-add-t15 c = search needs
+add-t14 : tie.Need-add-t14
+add-t14 c = search needs
 
 same-length : tie.Need-same-length
 same-length c = search needs
@@ -37,56 +32,46 @@ returns c =
     let e = c .before .before .before .before in
     let d = e .before .before .before .before in
     let a = d .before .before .before .before .before .before .args in
-    let head = a .head in
     let k = chain (a .columns) (a .screen .now) (a .attribute .now) in
     let cap = d .before .before .capacity .ensures .0 in
+    let told = e .enum-told .given .1 in
     (
-      torn-walked k head cap (d .draw-cells .ensures) (e .enum-told .given .1),
-      c .before .before .finish .ensures ∙ torn-drawn k head cap (d .draw-cells .ensures) (e .enum-told .given .1),
+      torn-walked k (a .head) cap (d .draw-to-terminator .ensures) told,
+      c .before .before .finish .ensures ∙ torn-drawn k (a .head) cap (d .draw-to-terminator .ensures) told,
     )
 
-cast-finish : tie.Need-cast-finish
-cast-finish c =
-    let d = c .before .before .before .before .before .before in
-    omega (arith, cells-within (d .draw-cells .ensures) (c .before .before .cells .given .1))
-
-finish-requires-2 : tie.Need-finish-requires-2
-finish-requires-2 c κs =
-    let d = c .before .before .before .before .before .before in
-    let p = d .before .before .before .before .before .before .pre in
-    ((p .1 .1 .0 .1, omega (arith, cells-within (d .draw-cells .ensures) (c .before .before .cells .given .1))), d .draw-cells .kept .1 .1 .1 .1 .0 ∙ p .1 .1 .1)
-
-add-t21 : tie.Need-add-t21
-add-t21 c =
-    let e = c .before .before .before .before .before in
-    omega (arith, cells-within (e .before .before .before .before .draw-cells .ensures) (e .cells .given .1))
-
-add-link : tie.Need-add-link
-add-link c =
-    let e = c .before .before .before .before .before in
-    omega (arith, cells-within (e .before .before .before .before .draw-cells .ensures) (e .cells .given .1))
-
-link-requires : tie.Need-link-requires
-link-requires c κs =
-    let e = c .before .before .before .before .before in
+end-row-requires : tie.Need-end-row-requires
+end-row-requires c κs =
+    let e = c .before .before in
     let d = e .before .before .before .before in
     let p = d .before .before .before .before .before .before .pre in
-    (p .0, (p .1 .0, omega (arith, cells-within (d .draw-cells .ensures) (e .cells .given .1))))
+    let most = le-trans (d .before .before .capacity .ensures .1) (p .1 .1 .0 .0) in
+    (
+      p .0,
+      (
+        p .1 .0,
+        (
+          (p .1 .1 .0 .1, cells-fit (d .draw-to-terminator .ensures) (e .cells .given .1) most),
+          d .draw-to-terminator .kept .1 .1 .1 .1 .0 ∙ p .1 .1 .1,
+        ),
+      ),
+    )
 
 same-length-2 : tie.Need-same-length-2
 same-length-2 c = search needs
 
 returns-2 : tie.Need-returns-2
 returns-2 c =
-    let e = c .before .before .before .before .before .before in
+    let w = c .before .before in
+    let e = w .before .before .before in
     let d = e .before .before .before .before in
     let a = d .before .before .before .before .before .before .args in
-    let head = a .head in
     let k = chain (a .columns) (a .screen .now) (a .attribute .now) in
     let cap = d .before .before .capacity .ensures .0 in
+    let told = e .cells .given .1 in
     (
-      whole-walked k head cap (d .draw-cells .ensures) (e .cells .given .1) (c .link .ensures),
-      c .before .before .before .finish2 .ensures ∙ whole-drawn k head cap (d .draw-cells .ensures) (e .cells .given .1),
+      w .end-row .ensures .0 ∙ whole-walked k (a .head) cap (d .draw-to-terminator .ensures) told,
+      w .end-row .ensures .1 ∙ whole-drawn k (a .head) cap (d .draw-to-terminator .ensures) told,
     )
 
 pub draw-row-spec : {M : Type 1} → statement M
@@ -94,17 +79,13 @@ draw-row-spec =
     tie.close
     (tie.spec
     capacity-requires
-    draw-cells-requires
+    draw-to-terminator-requires
     enum-known-cells
     enum-told
     finish-requires
-    add-t15
+    add-t14
     same-length
     returns
-    cast-finish
-    finish-requires-2
-    add-t21
-    add-link
-    link-requires
+    end-row-requires
     same-length-2
     returns-2)

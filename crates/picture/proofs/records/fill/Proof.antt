@@ -1,9 +1,9 @@
 use Prim.Native.Nat.{_-_}
 use native.Mathlib.Omega.{arith}
 use lib.ListN.{length-set}
+use borrow.Author.Needs.{needs}
 use Rattle.picture.specs.Record.{recordPairs}
 use Rattle.picture.proofs.Cells.{Filled, none-filled, one-filled, all-filled}
-use borrow.Author.Needs.{needs}
 use Rattle.picture.proofs.records.fill.Statement.{statement}
 use Rattle.picture.proofs.records.fill.Tie as tie
 

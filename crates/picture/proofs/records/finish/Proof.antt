@@ -1,8 +1,8 @@
 use Prim.Native.Nat.{ℕ}
 use mathlib.Core.Path.{_∙_, ap}
 use mathlib.Core.List.{List, _++_}
-use Rattle.picture.specs.Record.{header}
 use borrow.Author.Needs.{needs}
+use Rattle.picture.specs.Record.{header}
 use Rattle.picture.proofs.records.finish.Statement.{statement}
 use Rattle.picture.proofs.records.finish.Tie as tie
 

@@ -1,8 +1,8 @@
 use Prim.Native.Nat.{_/_, _%_}
 use native.Mathlib.Omega.{arith}
 use lib.ListN.{length-set}
-use Rattle.picture.proofs.Laws.{head-stored}
 use borrow.Author.Needs.{needs}
+use Rattle.picture.proofs.Laws.{head-stored}
 use Rattle.picture.proofs.records.write_head.Statement.{statement}
 use Rattle.picture.proofs.records.write_head.Tie as tie
 

@@ -2,10 +2,10 @@
 use Prim.Native.Nat.{_-_}
 use native.Mathlib.Omega.{arith}
 use lib.ListN.{length-set}
-use Rattle.picture.proofs.Cells.{Passed, none-passed, one-passed, found, not-found}
 use borrow.Author.Needs.{needs}
-use Rattle.picture.proofs.records.draw_cells.Statement.{statement}
-use Rattle.picture.proofs.records.draw_cells.Tie as tie
+use Rattle.picture.proofs.Cells.{Passed, none-passed, one-passed, found, not-found}
+use Rattle.picture.proofs.records.draw_to_terminator.Statement.{statement}
+use Rattle.picture.proofs.records.draw_to_terminator.Tie as tie
 
 abbrev Inv-loop : tie.InvT-loop
 Inv-loop screen attribute start capacity into₀ cell₀ into cell = Passed screen attribute start capacity into cell
@@ -78,8 +78,8 @@ same-length-3 c = search needs
 returns-3 : tie.Need-returns-3 Inv-loop μ-loop
 returns-3 c = not-found _ _ _ _ (search needs) _ (c .before .before .before .loop .inv) (c .before .byte-at3 .ensures) (omega arith) (c .if2 .left)
 
-pub draw-cells-spec : {M : Type 1} → statement M
-draw-cells-spec =
+pub draw-to-terminator-spec : {M : Type 1} → statement M
+draw-to-terminator-spec =
     tie.close
     (tie.spec
     Inv-loop
