@@ -12,7 +12,12 @@ use Rattle.chain.specs.Ahead.{rowAhead, aheadAfter, Placed}
 use Rattle.chain.specs.declared.Terminator.the-variants.{After, Missing}
 
 -- the search through `bytes` bytes that has passed `cells` of them and reads the next
-module _ (screen : List ℕ) (start bytes cells : ℕ) {byte : ℕ} (read : byte ≡ byteAt screen (start + cells)) (more : cells < bytes) where
+module _
+  (screen : List ℕ)
+  (start bytes cells : ℕ)
+  {byte : ℕ}
+  (read : byte ≡ byteAt screen (start + cells))
+  (more : cells < bytes) where
   left : bytes - cells ≡ suc (bytes - (cells + 1))
   left = omega arith
 
@@ -26,7 +31,8 @@ module _ (screen : List ℕ) (start bytes cells : ℕ) {byte : ℕ} (read : byte
   unfolding firstFF
   search-goes-on h = rw (left, ne-eqb (byteAt screen (start + cells)) 0xFF (λ e. h (read ∙ e)))
 
-pub search-fails : (screen : List ℕ) (start bytes cells : ℕ) → cells ≡ bytes → firstFF screen start cells (bytes - cells) ≡ Missing
+pub search-fails :
+    (screen : List ℕ) (start bytes cells : ℕ) → cells ≡ bytes → firstFF screen start cells (bytes - cells) ≡ Missing
 unfolding firstFF
 search-fails screen start bytes cells h = let none : bytes - cells ≡ 0 = omega arith in rw none
 

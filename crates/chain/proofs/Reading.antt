@@ -38,7 +38,7 @@ module _ (c : Chain) where
   reads-next (Torn head) = omega arith
   reads-next Dark = omega arith
 
-  reads-at : (row : ℕ) → reads c (rowAt c row) ≤ c .columns + 3
+  pub reads-at : (row : ℕ) → reads c (rowAt c row) ≤ c .columns + 3
   unfolding rowAt
   reads-at zero = reads-from first
   reads-at (suc row) = reads-next (rowAt c row)

@@ -15,7 +15,8 @@ use Rattle.listing.specs.Listing.{textOf, drawing, listed, listRows}
 
 sets-append : (a b l : List ℕ) (i : ℕ) → sets l i (a ++ b) ≡ sets (sets l i a) (i + length a) b
 sets-append [] b l i = ap (λ (n : ℕ). sets l n b) (omega arith)
-sets-append (x ∷ a) b l i = sets-append a b (set l i x) (suc i) ∙ ap (λ (n : ℕ). sets (sets (set l i x) (suc i) a) n b) (omega arith)
+sets-append (x ∷ a) b l i =
+    sets-append a b (set l i x) (suc i) ∙ ap (λ (n : ℕ). sets (sets (set l i x) (suc i) a) n b) (omega arith)
 
 pub put-none : {l : List ℕ} {at : ℕ} → Put l at [] l at
 put-none = record { text = refl; goes-on = omega arith; same = refl }

@@ -112,7 +112,8 @@ fn put_refused(text: &mut [u8], number: u8) -> usize
 fn put_drawn(columns: u16, drawn: Drawn, picture: &[u8], text: &mut [u8]) -> usize
     requires { ⌜ length (now picture) ≡ pictureBytes ⌝ }
     requires { ⌜ textBytes ≤ length (now text) ⌝ }
-    ensures { λ r. ⌜ Put (now (text .entry)) 0 (textOf columns (drawnPicture drawn (now (picture .entry)))) (now (text .exit)) r ⌝ }
+    ensures { λ r. ⌜ Put (now (text .entry)) 0 (textOf columns (drawnPicture drawn (now (picture .entry))))
+        (now (text .exit)) r ⌝ }
     ensures { λ r. ⌜ r ≤ textBytes ⌝ }
 {
     if drawn.refusal != lent::ACCEPTED {

@@ -1,4 +1,5 @@
--- A row's cells are written while the terminator is searched for: what holds after so many, how it begins, goes on and ends.
+-- A row's cells are written while its terminator is searched for, and the pairs after them: what holds after so many, how it
+-- begins, goes on and ends.
 use Prim.Native.Nat.{ℕ, suc, _+_, _-_, _*_, _%_, _≤_, _<_}
 use mathlib.Core.Path.{_≡_, refl, sym, _∙_, ap, subst}
 use mathlib.Core.List.{List, [], _∷_, _++_, append-assoc, append-nil}
@@ -19,51 +20,58 @@ pub record Passed (screen attribute : List ℕ) (start capacity : ℕ) (drawn : 
   pub search-left : firstFF screen start 0 (capacity + 1) ≡ firstFF screen start cell (capacity + 1 - cell)
   pub written : take (2 * cell) (pairsOf drawn) ≡ cellPairs screen attribute start cell
 
-module _ (screen attribute : List ℕ) (start capacity : ℕ) (fits : capacity ≤ recordPairs) (drawn : List ℕ) where
-  pub none-passed : length drawn ≡ recordBytes → Passed screen attribute start capacity drawn 0
+pub none-passed :
+    {screen attribute : List ℕ} {start capacity : ℕ} {drawn : List ℕ} → length drawn ≡ recordBytes
+    → Passed screen attribute start capacity drawn 0
+unfolding cellPairs
+none-passed {screen} {start = start} same =
+    record {
+      within = omega arith;
+      same = same;
+      search-left = ap (firstFF screen start 0) (omega arith);
+      written = refl;
+    }
+
+-- the next byte is read
+module _
+  {screen attribute : List ℕ}
+  {start capacity : ℕ}
+  {drawn : List ℕ}
+  {cell byte : ℕ}
+  (p : Passed screen attribute start capacity drawn cell)
+  (read : byte ≡ byteAt screen (start + cell)) where
+  pub one-passed :
+      {beside : ℕ} → beside ≡ byteAt attribute (start + cell) → capacity ≤ recordPairs → cell < capacity
+      → (byte ≡ 0xFF → ⊥)
+      → let at = headBytes + 2 * cell in
+      Passed screen attribute start capacity (set (set drawn at byte) (at + 1) (beside % 16)) (cell + 1)
   unfolding cellPairs
-  none-passed same =
+  one-passed {beside} seen fits more no-end =
+      let room : headBytes + 2 * cell + 1 < length drawn = omega (arith, p .same) in
       record {
         within = omega arith;
-        same = same;
-        search-left = ap (firstFF screen start 0) (omega arith);
-        written = refl;
+        same = simp length-set (p .same);
+        search-left = p .search-left ∙ search-goes-on screen start (capacity + 1) cell read (omega arith) no-end;
+        written = rw (pair-stored drawn cell byte (beside % 16) room, p .written, add-one cell, read, seen);
       }
 
-  module _ {cell : ℕ} (p : Passed screen attribute start capacity drawn cell) where
-    module _ {byte : ℕ} (read : byte ≡ byteAt screen (start + cell)) where
-      pub one-passed :
-          {beside : ℕ} → beside ≡ byteAt attribute (start + cell) → cell < capacity → (byte ≡ 0xFF → ⊥)
-          → Passed screen attribute start capacity (set (set drawn (headBytes + 2 * cell) byte) (headBytes + 2 * cell + 1) (beside % 16)) (cell + 1)
-      unfolding cellPairs
-      one-passed {beside} seen more no-end =
-          let room : headBytes + 2 * cell + 1 < length drawn = omega (arith, p .same) in
-          record {
-            within = omega arith;
-            same = simp length-set (p .same);
-            search-left =
-                p .search-left ∙ search-goes-on screen start (capacity + 1) cell read (omega arith) no-end;
-            written =
-                rw (pair-stored drawn cell byte (beside % 16) room, p .written, add-one cell, read, seen);
-          }
+  pub found : byte ≡ 0xFF → Found screen attribute start capacity drawn (After cell)
+  found end =
+      let more : cell < capacity + 1 = omega (arith, p .within) in
+      record {
+        answer = sym (p .search-left ∙ search-ends screen start (capacity + 1) cell read more end);
+        written = p .written;
+      }
 
-      pub found : cell ≤ capacity → byte ≡ 0xFF → Found screen attribute start capacity drawn (After cell)
-      found more end =
-          record {
-            answer = sym (p .search-left ∙ search-ends screen start (capacity + 1) cell read (omega arith) end);
-            written = p .written;
-          }
-
-      pub not-found :
-          capacity ≤ cell → (byte ≡ 0xFF → ⊥) → Found screen attribute start capacity drawn Missing
-      not-found all no-end =
-          let last : cell ≡ capacity = omega (arith, p .within) in
-          let on = search-goes-on screen start (capacity + 1) cell read (omega arith) no-end in
-          record {
-            answer = sym (p .search-left ∙ on ∙ search-fails screen start (capacity + 1) (cell + 1) (omega arith));
-            written =
-                subst (λ (n : ℕ). take (2 * n) (pairsOf drawn) ≡ cellPairs screen attribute start n) last (p .written);
-          }
+  pub not-found : capacity ≤ cell → (byte ≡ 0xFF → ⊥) → Found screen attribute start capacity drawn Missing
+  not-found all no-end =
+      let last : cell ≡ capacity = omega (arith, p .within) in
+      let on = search-goes-on screen start (capacity + 1) cell read (omega arith) no-end in
+      record {
+        answer = sym (p .search-left ∙ on ∙ search-fails screen start (capacity + 1) (cell + 1) (omega arith));
+        written =
+            subst (λ (n : ℕ). take (2 * n) (pairsOf drawn) ≡ cellPairs screen attribute start n) last (p .written);
+      }
 
 -- the pairs after the cells, written up to `pair`
 pub record Filled (before : List ℕ) (cells : ℕ) (drawn : List ℕ) (pair : ℕ) : Type 0 where
@@ -86,7 +94,8 @@ none-filled drawn cells fits same =
 
 pub one-filled :
     (before : List ℕ) (cells : ℕ) (drawn : List ℕ) (pair : ℕ) → Filled before cells drawn pair → pair < recordPairs
-    → Filled before cells (set (set drawn (headBytes + 2 * pair) 0x20) (headBytes + 2 * pair + 1) 0x0E) (pair + 1)
+    → let at = headBytes + 2 * pair in
+    Filled before cells (set (set drawn at 0x20) (at + 1) 0x0E) (pair + 1)
 unfolding fillPairs
 one-filled before cells drawn pair p more =
     let room : headBytes + 2 * pair + 1 < length drawn = omega (arith, p .same) in

@@ -3,3 +3,4 @@ pub mod Cells
 pub mod Rows
 pub mod Walk
 pub mod Counted
+pub mod Sizes

@@ -2,3 +2,4 @@ pub mod Record
 pub mod Walked
 pub mod Draw
 pub mod Counted
+pub mod Sizes

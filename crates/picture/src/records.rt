@@ -64,7 +64,8 @@ fn draw_to_terminator(
 fn fill(into: &mut [u8], cells: usize)
     requires { ⌜ cells ≤ recordPairs ⌝ }
     requires { ⌜ length (now into) ≡ recordBytes ⌝ }
-    ensures { λ _. ⌜ pairsOf (now (into .exit)) ≡ take (2 * cells) (pairsOf (now (into .entry))) ++ fillPairs (recordPairs - cells) ⌝ }
+    ensures { λ _. ⌜ pairsOf (now (into .exit))
+        ≡ take (2 * cells) (pairsOf (now (into .entry))) ++ fillPairs (recordPairs - cells) ⌝ }
 {
     let mut pair = cells;
     while pair < RECORD_PAIRS {
@@ -132,7 +133,8 @@ fn draw_row(
     requires { ⌜ (columns ≤ recordPairs) × (head .start < places) ⌝ }
     requires { ⌜ length (now into) ≡ recordBytes ⌝ }
     ensures { λ r. ⌜ r ≡ walked (chain columns (now (screen .entry)) (now (attribute .entry))) (Ahead.Row head) ⌝ }
-    ensures { λ _. ⌜ now (into .exit) ≡ drawnAhead (chain columns (now (screen .entry)) (now (attribute .entry))) (Ahead.Row head) ⌝ }
+    ensures { λ _. ⌜ now (into .exit)
+        ≡ drawnAhead (chain columns (now (screen .entry)) (now (attribute .entry))) (Ahead.Row head) ⌝ }
 {
     let capacity = chain::capacity(columns, head.kind);
     let Terminator::After(cells) =
@@ -160,7 +162,8 @@ pub fn draw_ahead(
     requires { ⌜ (columns ≤ recordPairs) × Placed ahead ⌝ }
     requires { ⌜ length (now into) ≡ recordBytes ⌝ }
     ensures { λ r. ⌜ r ≡ walked (chain columns (now (screen .entry)) (now (attribute .entry))) ahead ⌝ }
-    ensures { λ _. ⌜ now (into .exit) ≡ drawnAhead (chain columns (now (screen .entry)) (now (attribute .entry))) ahead ⌝ }
+    ensures { λ _. ⌜ now (into .exit)
+        ≡ drawnAhead (chain columns (now (screen .entry)) (now (attribute .entry))) ahead ⌝ }
 {
     match ahead {
         Ahead::Row(head) => draw_row(columns, screen, attribute, head, into),

@@ -2,7 +2,7 @@ use mathlib.Core.Path.{_∙_, ap}
 use borrow.Author.Tests.{eq-eqb, ne-eqb}
 use borrow.Author.Needs.{needs}
 use Rattle.machine.specs.declared.Machine.{Machine}
-use Rattle.picture.specs.Draw.{draw}
+use Rattle.picture.specs.Draw.{DrawnPicture, draw}
 use Rattle.listing.specs.Listing.{drawing}
 use Rattle.listing.proofs.lines.draw_read.Statement.{statement}
 use Rattle.listing.proofs.lines.draw_read.Tie as tie
@@ -26,8 +26,8 @@ returns-2 c =
     let d = c .before .before in
     let p = d .before .before in
     let a = p .before .before .before .before .before .args in
-    rw (eq-eqb _ _ (p .before .if1 .left))
-    (d .draw .ensures ∙ ap (λ (m : Machine). draw m (a .screen .now) (a .attribute .now) (a .picture .now)) (p .power-up .ensures))
+    let drawn-at : Machine → DrawnPicture = λ m. draw m (a .screen .now) (a .attribute .now) (a .picture .now) in
+    rw (eq-eqb _ _ (p .before .if1 .left)) (d .draw .ensures ∙ ap drawn-at (p .power-up .ensures))
 
 pub draw-read-spec : {M : Type 1} → statement M
 draw-read-spec = tie.close (tie.spec returns power-up-requires draw-requires same-length returns-2)

@@ -32,11 +32,12 @@ returns c =
     let d = k .before .before in
     let s = d .before .before .before .before in
     let a = s .args in
-    let narrow = k .columns .ensures ∙ ap columns (k .before .power-up .ensures) in
     let p = c .put-drawn in
+    let narrow = k .columns .ensures ∙ ap columns (k .before .power-up .ensures) in
     let fits : p .result ≤ length (p .last .1 .1 .1 .0) = omega (arith, p .ensures .0 .same, p .ensures .1, s .good) in
     (
-      all-listed (a .screen .now) (a .attribute .now) (a .picture .now) (a .beyond) (d .draw-read .ensures) narrow (p .ensures .0),
+      all-listed (a .screen .now) (a .attribute .now) (a .picture .now) (a .beyond) (d .draw-read .ensures) narrow
+      (p .ensures .0),
       (fits, sym (length-take-le _ _ fits)),
     )
 

@@ -15,8 +15,9 @@ same-length c = search needs
 returns : tie.Need-returns
 unfolding textOf
 returns c =
-    let p = c .before .before in
-    (rw (ne-eqb _ _ (p .before .before .if1 .taken)) (p .put-refused .ensures .0), omega (arith, p .put-refused .ensures .1))
+    let p = c .before .before .put-refused in
+    let refused = c .before .before .before .before .if1 .taken in
+    (rw (ne-eqb _ _ refused) (p .ensures .0), omega (arith, p .ensures .1))
 
 put-heading-requires : tie.Need-put-heading-requires
 put-heading-requires c κs = search needs

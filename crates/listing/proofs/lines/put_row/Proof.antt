@@ -47,7 +47,8 @@ returns-2 : tie.Need-returns-2
 unfolding lineOf
 returns-2 c =
     let p = c .before .before in
-    (rw (ne-eqb _ _ (p .before .before .before .before .before .if1 .left)) (p .put-line .ensures .0), p .put-line .ensures .1)
+    let lit = p .before .before .before .before .before .if1 .left in
+    (rw (ne-eqb _ _ lit) (p .put-line .ensures .0), p .put-line .ensures .1)
 
 pub put-row-spec : {M : Type 1} → statement M
 put-row-spec =

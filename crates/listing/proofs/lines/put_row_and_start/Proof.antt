@@ -29,7 +29,8 @@ returns c =
     let space = high .before .before .before .before in
     let number = space .before .before .before .before in
     (
-      number .put-decimal .ensures .0 then space .put-byte .ensures then high .put-hex .ensures .0 then low .put-hex2 .ensures .0,
+      number .put-decimal .ensures .0 then space .put-byte .ensures then high .put-hex .ensures .0
+      then low .put-hex2 .ensures .0,
       omega (arith, low .put-hex2 .ensures .1),
     )
 

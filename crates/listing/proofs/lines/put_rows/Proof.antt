@@ -11,7 +11,8 @@ use Rattle.listing.proofs.lines.put_rows.Statement.{statement}
 use Rattle.listing.proofs.lines.put_rows.Tie as tie
 
 abbrev Inv-loop : tie.InvT-loop
-Inv-loop picture text₀ at end₀ row₀ text end row = (row ≤ rows) × ((end ≤ at + row * lineMost) × Put text₀ at (linesTo picture row) text end)
+Inv-loop picture text₀ at end₀ row₀ text end row =
+    (row ≤ rows) × ((end ≤ at + row * lineMost) × Put text₀ at (linesTo picture row) text end)
 
 abbrev μ-loop : tie.MeasureT-loop
 μ-loop picture text₀ at end₀ row₀ text end row = rows - row

@@ -26,7 +26,8 @@ returns c =
     let two = c .before .before in
     let one = two .before .before .before .before .before in
     (
-      rw (← one .before .digit .ensures, ← two .before .digit2 .ensures) (one .put-byte .ensures then two .put-byte2 .ensures),
+      rw (← one .before .digit .ensures, ← two .before .digit2 .ensures)
+      (one .put-byte .ensures then two .put-byte2 .ensures),
       omega (arith, one .put-byte .ensures .goes-on, two .put-byte2 .ensures .goes-on),
     )
 

@@ -29,7 +29,11 @@ returns-2 : tie.Need-returns-2
 unfolding reached
 returns-2 c =
     let p = c .before .before in
-    (rw (le-ltb _ _ (p .before .before .before .if1 .left), ← p .before .digit .ensures) (p .put-byte .ensures), omega (arith, p .put-byte .ensures .goes-on))
+    let reaches = p .before .before .before .if1 .left in
+    (
+      rw (le-ltb _ _ reaches, ← p .before .digit .ensures) (p .put-byte .ensures),
+      omega (arith, p .put-byte .ensures .goes-on),
+    )
 
 pub put-reached-spec : {M : Type 1} → statement M
 put-reached-spec =

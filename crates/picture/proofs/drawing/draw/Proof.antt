@@ -22,8 +22,10 @@ columns-requires c κs = search needs
 draw-rows-requires : tie.Need-draw-rows-requires
 draw-rows-requires c κs =
     let k = c .before in
-    let right = lentPicture (held (k .before .before .lengths-picture .ensures) (k .before .if1 .left)) in
-    (right .0, (right .1 .0, (right .1 .1, rw (k .columns .ensures) (columns-fit (k .before .before .before .before .before .before .args .machine)))))
+    let e = k .before in
+    let m = e .before .before .before .before .before .args .machine in
+    let right = lentPicture (held (e .before .lengths-picture .ensures) (e .if1 .left)) in
+    (right .0, (right .1 .0, (right .1 .1, rw (k .columns .ensures) (columns-fit m))))
 
 cast-reads : tie.Need-cast-reads
 cast-reads c =

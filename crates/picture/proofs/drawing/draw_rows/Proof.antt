@@ -8,7 +8,8 @@ use Rattle.picture.proofs.drawing.draw_rows.Statement.{statement}
 use Rattle.picture.proofs.drawing.draw_rows.Tie as tie
 
 abbrev Inv-loop : tie.InvT-loop
-Inv-loop columns screen attribute picture₀ ahead₀ reads₀ row₀ picture ahead reads row = Walking (chain columns screen attribute) picture ahead reads row
+Inv-loop columns screen attribute picture₀ ahead₀ reads₀ row₀ picture ahead reads row =
+    Walking (chain columns screen attribute) picture ahead reads row
 
 abbrev μ-loop : tie.MeasureT-loop
 μ-loop columns screen attribute picture₀ ahead₀ reads₀ row₀ picture ahead reads row = rows - row
@@ -44,7 +45,8 @@ add-reads : tie.Need-add-reads Inv-loop μ-loop
 add-reads c =
     let d = c .before .before .before in
     let l = d .before .before .before in
-    omega (arith, sum-fits (l .loop .inv) (d .before .before .loop-test .taken) (d .draw-ahead .ensures .0) (l .before .before .before .before .before .pre .1 .1 .1))
+    let wide = l .before .before .before .before .before .pre .1 .1 .1 in
+    omega (arith, sum-fits (l .loop .inv) (d .before .before .loop-test .taken) (d .draw-ahead .ensures .0) wide)
 
 add-row : tie.Need-add-row Inv-loop μ-loop
 add-row c = search needs

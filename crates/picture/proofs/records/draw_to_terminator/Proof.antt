@@ -14,7 +14,7 @@ abbrev μ-loop : tie.MeasureT-loop
 μ-loop screen attribute start capacity into₀ cell₀ into cell = capacity - cell
 
 loop-holds : tie.Need-loop-holds Inv-loop μ-loop
-loop-holds c = none-passed _ _ _ _ (search needs) _ (search needs)
+loop-holds c = none-passed (search needs)
 
 add-byte-at : tie.Need-add-byte-at Inv-loop μ-loop
 add-byte-at c = search needs
@@ -26,7 +26,7 @@ same-length : tie.Need-same-length Inv-loop μ-loop
 same-length c = search needs
 
 returns : tie.Need-returns Inv-loop μ-loop
-returns c = found _ _ _ _ (search needs) _ (c .before .before .before .loop .inv) (c .before .byte-at .ensures) (omega arith) (c .if1 .taken)
+returns c = found (c .before .before .before .loop .inv) (c .before .byte-at .ensures) (c .if1 .taken)
 
 mul-at : tie.Need-mul-at Inv-loop μ-loop
 mul-at c = search needs
@@ -57,8 +57,9 @@ loop-less c = search needs
 
 loop-again : tie.Need-loop-again Inv-loop μ-loop
 loop-again c =
-    let s = c .before .before .before .before in
-    one-passed _ _ _ _ (search needs) _ (s .loop .inv) (c .before .before .byte-at .ensures) (c .byte-at2 .ensures) (omega arith) (c .before .if1 .left)
+    let character = c .before .before in
+    one-passed (character .before .before .loop .inv) (character .byte-at .ensures) (c .byte-at2 .ensures)
+    (search needs) (omega arith) (c .before .if1 .left)
 
 add-byte-at-3 : tie.Need-add-byte-at-3 Inv-loop μ-loop
 add-byte-at-3 c = search needs
@@ -70,13 +71,13 @@ same-length-2 : tie.Need-same-length-2 Inv-loop μ-loop
 same-length-2 c = search needs
 
 returns-2 : tie.Need-returns-2 Inv-loop μ-loop
-returns-2 c = found _ _ _ _ (search needs) _ (c .before .before .before .loop .inv) (c .before .byte-at3 .ensures) (omega arith) (c .if2 .taken)
+returns-2 c = found (c .before .before .before .loop .inv) (c .before .byte-at3 .ensures) (c .if2 .taken)
 
 same-length-3 : tie.Need-same-length-3 Inv-loop μ-loop
 same-length-3 c = search needs
 
 returns-3 : tie.Need-returns-3 Inv-loop μ-loop
-returns-3 c = not-found _ _ _ _ (search needs) _ (c .before .before .before .loop .inv) (c .before .byte-at3 .ensures) (omega arith) (c .if2 .left)
+returns-3 c = not-found (c .before .before .before .loop .inv) (c .before .byte-at3 .ensures) (omega arith) (c .if2 .left)
 
 pub draw-to-terminator-spec : {M : Type 1} → statement M
 draw-to-terminator-spec =

@@ -1,0 +1,15 @@
+-- Document 01, "The picture" and "Lent memory": the records and the picture have the sizes that are said of them.
+use Prim.Native.Nat.{ℕ, _≤_}
+use mathlib.Core.Path.{_≡_}
+use lib.ListN.{length}
+use Rattle.lent.specs.Lengths.{pictureBytes}
+use Rattle.chain.specs.Chain.{Chain, rowAt}
+use Rattle.picture.specs.Record.{recordBytes, recordPairs, recordOf, pictureOf}
+
+-- "row records of 268 bytes"
+abbrev pub RecordsSized : Type 0
+RecordsSized = (c : Chain) (row : ℕ) → c .columns ≤ recordPairs → length (recordOf c (rowAt c row)) ≡ recordBytes
+
+-- "picture 6,432"
+abbrev pub PictureSized : Type 0
+PictureSized = (c : Chain) → c .columns ≤ recordPairs → length (pictureOf c) ≡ pictureBytes
