@@ -6,7 +6,8 @@ use Rattle.memories.specs.ViewZ80.{lengthsZ80, isPrivate}
 use Rattle.ports.specs.Ports.{lengthsNvm}
 use Rattle.chain.specs.Chain.{byteAt, capacity, firstFF, terminator, link, rowFrom, next, rowAt}
 use Rattle.chain.specs.Reading.{reads, readsTo}
-use Rattle.picture.specs.Record.{cellPairs, fillPairs, recordOf, pictureTo}
+use Rattle.records.specs.Record.{cellPairs, fillPairs, recordOf}
+use Rattle.picture.specs.Picture.{pictureTo}
 use Rattle.picture.specs.Draw.{lengthsPicture}
 use Rattle.cases.specs.Said.{Said, Case, differ}
 use Rattle.cases.specs.Screens.{alikeFrom, alike, drawnFrom, rowsOf, drawnAll, memory, byteOfRow, startOfRow, countOfRow}

@@ -5,7 +5,7 @@ use lib.ListN.{length, getD, drop, replicate}
 use Rattle.lent.specs.Lengths.{screenBytes, attributeBytes, pictureBytes}
 use Rattle.machine.specs.Power.{powerUp}
 use Rattle.chain.specs.Chain.{rows}
-use Rattle.picture.specs.Record.{recordBytes}
+use Rattle.records.specs.Record.{recordBytes}
 use Rattle.picture.specs.Draw.{DrawnPicture, draw}
 use Rattle.cases.specs.Said.{Said, Row, Start, Count, Reads}
 

@@ -13,11 +13,11 @@ use Rattle.chain.specs.declared.Terminator.the-variants.{After, Missing}
 
 -- the search through `bytes` bytes that has passed `cells` of them and reads the next
 module _
-  (screen : List ℕ)
-  (start bytes cells : ℕ)
-  {byte : ℕ}
-  (read : byte ≡ byteAt screen (start + cells))
-  (more : cells < bytes) where
+    (screen : List ℕ)
+    (start bytes cells : ℕ)
+    {byte : ℕ}
+    (read : byte ≡ byteAt screen (start + cells))
+    (more : cells < bytes) where
   left : bytes - cells ≡ suc (bytes - (cells + 1))
   left = omega arith
 

@@ -35,7 +35,10 @@ impl Head {
     pub fn first() -> Head
         ensures { λ r. ⌜ r ≡ first ⌝ }
     {
-        Head { start: 0, kind: NORMAL }
+        Head {
+            start: 0,
+            kind: NORMAL,
+        }
     }
 }
 
@@ -50,7 +53,11 @@ pub fn capacity(columns: usize, kind: u8) -> usize
     ensures { λ r. ⌜ r ≡ capacity columns kind ⌝ }
     ensures { λ r. ⌜ r ≤ columns ⌝ }
 {
-    if kind % 4 < NORMAL { columns / 2 } else { columns }
+    if kind % 4 < NORMAL {
+        columns / 2
+    } else {
+        columns
+    }
 }
 
 // The link of the row whose terminator stands at `place`.

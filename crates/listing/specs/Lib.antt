@@ -1,4 +1,1 @@
-pub mod Ascii
-pub mod Numbers
-pub mod Put
 pub mod Listing

@@ -9,10 +9,10 @@ use Rattle.lent.specs.Refusals.{accepted, lengthRefused}
 use Rattle.machine.specs.Power.{powerUp}
 use Rattle.machine.specs.Settings.{columns}
 use Rattle.chain.specs.Chain.{rows}
-use Rattle.picture.specs.Record.{recordBytes}
+use Rattle.records.specs.Record.{recordBytes}
 use Rattle.picture.specs.Draw.{DrawnPicture, drawn, draw}
-use Rattle.listing.specs.Ascii.{ascii}
-use Rattle.listing.specs.Numbers.{decimal, hex}
+use Rattle.ascii.specs.Ascii.{ascii}
+use Rattle.ascii.specs.Numbers.{decimal, hex}
 
 abbrev pub newline : List ℕ
 newline = 0x0A ∷ []
@@ -38,7 +38,7 @@ unfoldable pub lineOf : List ℕ → ℕ → List ℕ
 lineOf picture row =
     let at = row * recordBytes in
     let shown =
-        line row (getD picture at 0) (getD picture (at + 1) 0) (getD picture (at + 2) 0) (getD picture (at + 3) 0)
+    line row (getD picture at 0) (getD picture (at + 1) 0) (getD picture (at + 2) 0) (getD picture (at + 3) 0)
     in
     cond (eqb (getD picture (at + 3) 0) 254) [] shown
 

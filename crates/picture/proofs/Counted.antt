@@ -7,7 +7,7 @@ use lib.ListN.{length}
 use Rattle.chain.specs.Chain.{chain}
 use Rattle.chain.specs.Reading.{walkReads, readsAt132, readsAt80}
 use Rattle.chain.proofs.Reading.{reads-at-most}
-use Rattle.picture.specs.Record.{pictureOf}
+use Rattle.picture.specs.Picture.{pictureOf}
 use Rattle.picture.specs.Draw.{lengthsPicture, DrawnPicture, drawn}
 use Rattle.picture.specs.Counted.{CountAtMost}
 

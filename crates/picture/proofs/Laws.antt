@@ -1,43 +1,14 @@
--- Laws about a record's pairs and header.
-use Prim.Native.Nat.{ℕ, suc, _+_, _*_, _≤_, _<_}
-use mathlib.Core.Path.{_≡_, refl}
-use mathlib.Core.List.{List, [], _∷_, _++_, append-assoc}
+-- Laws about the drawing call: what the lengths tell, and that a line fits a record.
+use Prim.Native.Nat.{ℕ, _≤_}
+use mathlib.Core.Path.{_≡_}
 use mathlib.Core.Bool.{Bool, true, false, cond}
 use native.Mathlib.Omega.{arith}
-use lib.ListN.{length, take, set, length-set, length-drop}
-use lib.Seq.{take-suc-set, drop-set-add}
 use Rattle.lent.specs.Lengths.{screenBytes, attributeBytes, pictureBytes}
 use Rattle.machine.specs.declared.Machine.{Machine}
 use Rattle.machine.specs.Settings.{columns}
+use Rattle.records.specs.Record.{recordPairs}
 use Rattle.lent.proofs.Tests.{three-equal}
-use Rattle.picture.specs.Record.{headBytes, recordPairs}
-use Rattle.picture.specs.Walked.{pairsOf}
 use Rattle.picture.specs.Draw.{lengthsPicture}
-
--- a pair is stored after the pairs before it
-pub pair-stored :
-    (l : List ℕ) (k a b : ℕ) → headBytes + 2 * k + 1 < length l
-    → take (2 * (k + 1)) (pairsOf (set (set l (headBytes + 2 * k) a) (headBytes + 2 * k + 1) b))
-    ≡ take (2 * k) (pairsOf l) ++ (a ∷ b ∷ [])
-pair-stored l k a b h =
-    let two : 2 * (k + 1) ≡ suc (suc (2 * k)) = omega arith in
-    let second : headBytes + 2 * k + 1 ≡ headBytes + suc (2 * k) = omega arith in
-    let odd : suc (2 * k) < length (set (pairsOf l) (2 * k) a) = simp (length-set, length-drop) (omega arith) in
-    let even : 2 * k < length (pairsOf l) = simp length-drop (omega arith) in
-    rw (two, second, drop-set-add headBytes (set l (headBytes + 2 * k) a) (suc (2 * k)) b,
-    drop-set-add headBytes l (2 * k) a, take-suc-set (set (pairsOf l) (2 * k) a) (suc (2 * k)) b odd,
-    take-suc-set (pairsOf l) (2 * k) a even)
-    (append-assoc (take (2 * k) (pairsOf l)) (a ∷ []) (b ∷ []))
-
--- the header is stored ahead of the rest
-pub head-stored :
-    (l : List ℕ) (a b c d : ℕ) → headBytes ≤ length l
-    → set (set (set (set l 0 a) 1 b) 2 c) 3 d ≡ (a ∷ b ∷ c ∷ d ∷ []) ++ pairsOf l
-head-stored [] a b c d h = absurd (omega arith)
-head-stored (w ∷ []) a b c d h = absurd (omega arith)
-head-stored (w ∷ x ∷ []) a b c d h = absurd (omega arith)
-head-stored (w ∷ x ∷ y ∷ []) a b c d h = absurd (omega arith)
-head-stored (w ∷ x ∷ y ∷ z ∷ l) a b c d h = refl
 
 -- the lengths are those of the list where the test holds
 pub lentPicture :

@@ -1,6 +1,4 @@
 pub mod Laws
-pub mod Cells
-pub mod Rows
 pub mod Walk
 pub mod Counted
 pub mod Sizes

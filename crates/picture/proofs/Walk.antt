@@ -13,11 +13,12 @@ use Rattle.chain.specs.Reading.{reads, readsTo, walkReads, readsAt132}
 use Rattle.chain.specs.Ahead.{rowAhead, Placed}
 use Rattle.chain.specs.declared.Ahead.{Ahead}
 use Rattle.chain.specs.declared.Ahead.the-variants.{Row}
+use Rattle.records.specs.Record.{recordBytes, recordPairs}
+use Rattle.records.specs.Walked.{walked, drawnAhead}
+use Rattle.records.specs.declared.Walked.{Walked}
 use Rattle.chain.proofs.Laws.{leads-on, placed-after}
 use Rattle.chain.proofs.Reading.{reads-fit}
-use Rattle.picture.specs.Record.{recordBytes, recordPairs, pictureTo, pictureOf}
-use Rattle.picture.specs.Walked.{walked, drawnAhead}
-use Rattle.picture.specs.declared.records.Walked.{Walked}
+use Rattle.picture.specs.Picture.{pictureTo, pictureOf}
 
 pub record Walking (c : Chain) (picture : List ℕ) (ahead : Ahead) (count row : ℕ) : Type 0 where
   pub within : row ≤ rows
@@ -43,12 +44,12 @@ record-put picture new at room same =
     (take-at (take at picture ++ new) (drop k (drop at picture)) (at + recordBytes) (long ∙ ap (λ (n : ℕ). at + n) same))
 
 module _
-  {c : Chain}
-  {picture : List ℕ}
-  {ahead : Ahead}
-  {count row : ℕ}
-  (w : Walking c picture ahead count row)
-  (more : row < rows) where
+    {c : Chain}
+    {picture : List ℕ}
+    {ahead : Ahead}
+    {count row : ℕ}
+    (w : Walking c picture ahead count row)
+    (more : row < rows) where
   pub part-lent :
       length (midOf (row * recordBytes) (row * recordBytes + recordBytes - row * recordBytes) picture) ≡ recordBytes
   part-lent =

@@ -10,8 +10,8 @@ use Rattle.machine.specs.declared.Machine.{Machine}
 use Rattle.machine.specs.Settings.{columns}
 use Rattle.chain.specs.Chain.{Chain, chain}
 use Rattle.chain.specs.Reading.{walkReads}
-use Rattle.picture.specs.Record.{pictureOf}
-use Rattle.picture.specs.declared.drawing.Drawn.{Drawn}
+use Rattle.picture.specs.Picture.{pictureOf}
+use Rattle.picture.specs.declared.Drawn.{Drawn}
 
 -- the three lengths are those of the list
 unfoldable pub lengthsPicture : ℕ → ℕ → ℕ → Bool

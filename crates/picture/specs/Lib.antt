@@ -1,5 +1,4 @@
-pub mod Record
-pub mod Walked
+pub mod Picture
 pub mod Draw
 pub mod Counted
 pub mod Sizes

@@ -4,7 +4,8 @@ use mathlib.Core.Path.{_≡_}
 use lib.ListN.{length}
 use Rattle.lent.specs.Lengths.{pictureBytes}
 use Rattle.chain.specs.Chain.{Chain, rowAt}
-use Rattle.picture.specs.Record.{recordBytes, recordPairs, recordOf, pictureOf}
+use Rattle.records.specs.Record.{recordBytes, recordPairs, recordOf}
+use Rattle.picture.specs.Picture.{pictureOf}
 
 -- "row records of 268 bytes"
 abbrev pub RecordsSized : Type 0

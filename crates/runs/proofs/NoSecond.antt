@@ -21,9 +21,9 @@ use Rattle.shadow.proofs.write_shadow.Reads as write-shadow
 use Rattle.diagnostic.specs.Diagnostic.{writtenPort}
 use Rattle.ports.proofs.write_port.Reads as write-port
 use Rattle.picture.specs.Draw.{drawn}
-use Rattle.picture.proofs.drawing.draw.Reads as draw
+use Rattle.picture.proofs.draw.Reads as draw
 use Rattle.listing.specs.Listing.{listed}
-use Rattle.listing.proofs.lines.list_rows.Reads as list-rows
+use Rattle.listing.proofs.list_rows.Reads as list-rows
 
 pub no-second : {A : Type 0} {promised one other : A} → one ≡ promised → other ≡ promised → one ≡ other
 no-second p q = p ∙ sym q

@@ -31,7 +31,7 @@ fn told(machine: Machine, kind: u8, after: usize)
     say::number(b"columns ", machine.columns() as u64);
     say::byte(b" kind ", kind);
     say::number(b" FF after ", after as u64);
-    say::byte(b" count ", picture[picture::records::RECORD_BYTES + 3]);
+    say::byte(b" count ", picture[records::RECORD_BYTES + 3]);
     say::sum(sum);
 }
 

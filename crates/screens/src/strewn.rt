@@ -96,7 +96,13 @@ fn one(tried: Tried, every: u64, under: u64) -> Tried
     let mut picture = [0u8; PICTURE_BYTES];
     let seed = strew(&mut screen, tried.seed, every, under);
     let seed = strew(&mut attribute, seed, 30, 256);
-    let sum = drawn(tried.sum, Machine::power_up(), &screen, &attribute, &mut picture);
+    let sum = drawn(
+        tried.sum,
+        Machine::power_up(),
+        &screen,
+        &attribute,
+        &mut picture,
+    );
     let sum = drawn(sum, at_132(), &screen, &attribute, &mut picture);
     Tried { seed, sum }
 }

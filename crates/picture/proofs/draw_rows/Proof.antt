@@ -1,0 +1,90 @@
+use Prim.Native.Nat.{_-_}
+use mathlib.Core.Path.{_∙_}
+use native.Mathlib.Omega.{arith}
+use borrow.Author.Needs.{needs}
+use Rattle.chain.specs.Chain.{chain, rows}
+use Rattle.picture.proofs.Walk.{Walking, walk-begins, part-lent, sum-fits, walk-goes-on, walk-ends}
+use Rattle.picture.proofs.draw_rows.Statement.{statement}
+use Rattle.picture.proofs.draw_rows.Tie as tie
+
+abbrev Inv-loop : tie.InvT-loop
+Inv-loop columns screen attribute picture₀ ahead₀ reads₀ row₀ picture ahead reads row =
+    Walking (chain columns screen attribute) picture ahead reads row
+
+abbrev μ-loop : tie.MeasureT-loop
+μ-loop columns screen attribute picture₀ ahead₀ reads₀ row₀ picture ahead reads row = rows - row
+
+first-requires : tie.Need-first-requires Inv-loop μ-loop
+first-requires c κs = search needs
+
+loop-holds : tie.Need-loop-holds Inv-loop μ-loop
+loop-holds c = rw (c .first .ensures) (walk-begins _ _ (search needs))
+
+mul-at : tie.Need-mul-at Inv-loop μ-loop
+mul-at c = search needs
+
+add-end : tie.Need-add-end Inv-loop μ-loop
+add-end c = search needs
+
+sub-draw-ahead : tie.Need-sub-draw-ahead Inv-loop μ-loop
+sub-draw-ahead c = search needs
+
+part-draw-ahead-start : tie.Need-part-draw-ahead-start Inv-loop μ-loop
+part-draw-ahead-start c = search needs
+
+part-draw-ahead-end : tie.Need-part-draw-ahead-end Inv-loop μ-loop
+part-draw-ahead-end c = search needs
+
+draw-ahead-requires : tie.Need-draw-ahead-requires Inv-loop μ-loop
+draw-ahead-requires c κs =
+    let l = c .before .before in
+    let p = l .before .before .before .before .before .pre in
+    (p .0, (p .1 .0, ((p .1 .1 .1, l .loop .inv .placed), part-lent (l .loop .inv) (c .before .loop-test .taken))))
+
+add-reads : tie.Need-add-reads Inv-loop μ-loop
+add-reads c =
+    let d = c .before .before .before in
+    let l = d .before .before .before in
+    let wide = l .before .before .before .before .before .pre .1 .1 .1 in
+    omega (arith, sum-fits (l .loop .inv) (d .before .before .loop-test .taken) (d .draw-ahead .ensures .0) wide)
+
+add-row : tie.Need-add-row Inv-loop μ-loop
+add-row c = search needs
+
+loop-less : tie.Need-loop-less Inv-loop μ-loop
+loop-less c = search needs
+
+loop-again : tie.Need-loop-again Inv-loop μ-loop
+loop-again c =
+    let d = c .before .before .before in
+    let w = d .before .before .before .loop .inv in
+    let more = d .before .before .loop-test .taken in
+    walk-goes-on w more (d .draw-ahead .ensures .0) (d .draw-ahead .ensures .1)
+    (d .draw-ahead .kept .1 .1 .1 .1 .0 ∙ part-lent w more)
+
+same-length : tie.Need-same-length Inv-loop μ-loop
+same-length c = search needs
+
+returns : tie.Need-returns Inv-loop μ-loop
+returns c = walk-ends (c .before .loop .inv) (c .loop-test .left)
+
+pub draw-rows-spec : {M : Type 1} → statement M
+draw-rows-spec =
+    tie.close
+    (tie.spec
+    Inv-loop
+    μ-loop
+    first-requires
+    loop-holds
+    mul-at
+    add-end
+    sub-draw-ahead
+    part-draw-ahead-start
+    part-draw-ahead-end
+    draw-ahead-requires
+    add-reads
+    add-row
+    loop-less
+    loop-again
+    same-length
+    returns)

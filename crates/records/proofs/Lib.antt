@@ -1,0 +1,3 @@
+pub mod Laws
+pub mod Cells
+pub mod Rows

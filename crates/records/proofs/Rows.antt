@@ -1,0 +1,51 @@
+-- A row whose terminator was searched for: which row it is, its record, what it read and what it leads to.
+use Prim.Native.Nat.{ℕ, _+_, _≤_}
+use mathlib.Core.Path.{_≡_, sym, _∙_, ap}
+use mathlib.Core.List.{List}
+use native.Mathlib.Omega.{arith}
+use Rattle.chain.specs.Chain.{Chain, capacity, firstFF, terminator, ended, rowFrom}
+use Rattle.chain.specs.Reading.{reads}
+use Rattle.chain.specs.declared.Head.{Head}
+use Rattle.chain.specs.declared.Terminator.{Terminator}
+use Rattle.chain.specs.declared.Terminator.the-variants.{After, Missing}
+use Rattle.chain.specs.declared.Ahead.the-variants.{Row, Dark}
+use Rattle.chain.proofs.Laws.{found-within}
+use Rattle.records.specs.Record.{recordPairs, recordOf}
+use Rattle.records.specs.Walked.{Found, finished, wholeWalked, walked, drawnAhead}
+
+-- the cells of a whole row are no more than a record's pairs
+pub cells-fit :
+    {screen attribute drawn : List ℕ} {start cap n : ℕ} {t : Terminator}
+    → Found screen attribute start cap drawn t → t ≡ After n → cap ≤ recordPairs → n ≤ recordPairs
+cells-fit {screen} {start = start} {cap} f e h =
+    omega (arith, found-within screen start 0 (cap + 1) (sym (f .answer) ∙ e))
+
+module _
+    (c : Chain)
+    (head : Head)
+    {cap : ℕ}
+    (is : cap ≡ capacity (c .columns) (head .kind))
+    {drawn : List ℕ}
+    {t : Terminator}
+    (f : Found (c .screen) (c .attribute) (head .start) cap drawn t) where
+  row-found : rowFrom c head ≡ ended head t
+  unfolding rowFrom terminator
+  row-found = ap (ended head) (ap (λ (n : ℕ). firstFF (c .screen) (head .start) 0 (n + 1)) (sym is) ∙ sym (f .answer))
+
+  module _ (torn : t ≡ Missing) where
+    pub torn-walked : record { reads = cap + 1; next = Dark } ≡ walked c (Row head)
+    unfolding reads
+    torn-walked = rw (row-found, torn, is)
+
+    pub torn-drawn : finished head 255 cap drawn ≡ drawnAhead c (Row head)
+    unfolding recordOf
+    torn-drawn = rw (row-found, torn, rw torn at (f .written), is)
+
+  module _ {n : ℕ} (whole : t ≡ After n) where
+    pub whole-walked : wholeWalked (c .screen) (c .attribute) head n ≡ walked c (Row head)
+    unfolding reads
+    whole-walked = rw (row-found, whole)
+
+    pub whole-drawn : finished head n n drawn ≡ drawnAhead c (Row head)
+    unfolding recordOf
+    whole-drawn = rw (row-found, whole, rw whole at (f .written))

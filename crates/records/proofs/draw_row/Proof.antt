@@ -1,0 +1,88 @@
+use mathlib.Core.Path.{_∙_}
+use native.Mathlib.Nat.{le-trans}
+use borrow.Author.Needs.{needs}
+use Rattle.chain.specs.Chain.{chain}
+use Rattle.records.proofs.Rows.{cells-fit, torn-walked, torn-drawn, whole-walked, whole-drawn}
+use Rattle.records.proofs.draw_row.Statement.{statement}
+use Rattle.records.proofs.draw_row.Tie as tie
+
+capacity-requires : tie.Need-capacity-requires
+capacity-requires c κs = search needs
+
+draw-to-terminator-requires : tie.Need-draw-to-terminator-requires
+draw-to-terminator-requires c κs = search needs
+
+enum-known-cells : tie.Need-enum-known-cells
+enum-known-cells c = search needs
+
+enum-told : tie.Need-enum-told
+enum-told c = search needs
+
+finish-requires : tie.Need-finish-requires
+finish-requires c κs = search needs
+
+add-t14 : tie.Need-add-t14
+add-t14 c = search needs
+
+same-length : tie.Need-same-length
+same-length c = search needs
+
+returns : tie.Need-returns
+returns c =
+    let e = c .before .before .before .before in
+    let d = e .before .before .before .before in
+    let a = d .before .before .before .before .before .before .args in
+    let k = chain (a .columns) (a .screen .now) (a .attribute .now) in
+    let cap = d .before .before .capacity .ensures .0 in
+    let told = e .enum-told .given .1 in (
+      torn-walked k (a .head) cap (d .draw-to-terminator .ensures) told,
+      c .before .before .finish .ensures ∙ torn-drawn k (a .head) cap (d .draw-to-terminator .ensures) told,
+    )
+
+end-row-requires : tie.Need-end-row-requires
+end-row-requires c κs =
+    let e = c .before .before in
+    let d = e .before .before .before .before in
+    let p = d .before .before .before .before .before .before .pre in
+    let most = le-trans (d .before .before .capacity .ensures .1) (p .1 .1 .0 .0) in (
+      p .0,
+      (
+        p .1 .0,
+        (
+          (p .1 .1 .0 .1, cells-fit (d .draw-to-terminator .ensures) (e .cells .given .1) most),
+          d .draw-to-terminator .kept .1 .1 .1 .1 .0 ∙ p .1 .1 .1,
+        ),
+      ),
+    )
+
+same-length-2 : tie.Need-same-length-2
+same-length-2 c = search needs
+
+returns-2 : tie.Need-returns-2
+returns-2 c =
+    let w = c .before .before in
+    let e = w .before .before .before in
+    let d = e .before .before .before .before in
+    let a = d .before .before .before .before .before .before .args in
+    let k = chain (a .columns) (a .screen .now) (a .attribute .now) in
+    let cap = d .before .before .capacity .ensures .0 in
+    let told = e .cells .given .1 in (
+      w .end-row .ensures .0 ∙ whole-walked k (a .head) cap (d .draw-to-terminator .ensures) told,
+      w .end-row .ensures .1 ∙ whole-drawn k (a .head) cap (d .draw-to-terminator .ensures) told,
+    )
+
+pub draw-row-spec : {M : Type 1} → statement M
+draw-row-spec =
+    tie.close
+    (tie.spec
+    capacity-requires
+    draw-to-terminator-requires
+    enum-known-cells
+    enum-told
+    finish-requires
+    add-t14
+    same-length
+    returns
+    end-row-requires
+    same-length-2
+    returns-2)

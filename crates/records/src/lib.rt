@@ -1,0 +1,166 @@
+// The record of one row: its start, kind and count, and the pairs of character and attribute.
+// Document 01, "The picture".
+ghost use Prim.Native.Nat.{_+_, _*_, _-_, _≤_, _<_};
+ghost use mathlib.Core.Path.{_≡_};
+ghost use mathlib.Core.List.{_++_};
+ghost use lib.ListN.{length, take};
+ghost use Rattle.lent.specs.Lengths.{screenBytes, attributeBytes};
+ghost use Rattle.chain.specs.Chain.{chain, places};
+ghost use Rattle.chain.specs.Ahead.{Placed};
+ghost use Rattle.records.specs.Record.{recordBytes, headBytes, recordPairs, fillPairs, header};
+ghost use Rattle.records.specs.Walked.{pairsOf, Found, finished, wholeWalked, walked, drawnAhead};
+use chain::Ahead;
+use chain::Head;
+use chain::Terminator;
+
+pub const RECORD_BYTES: usize = 268;
+// The bytes of a record ahead of its pairs.
+const HEAD_BYTES: usize = 4;
+
+const RECORD_PAIRS: usize = 132;
+// The count of a torn row, and of a dark one.
+pub const TORN: u8 = 255;
+
+pub const DARK: u8 = 254;
+
+// A row that was walked: the bytes of screen memory that it read, and what the chain leads to.
+pub struct Walked {
+    pub reads: usize,
+    pub next: Ahead,
+}
+
+// Finds the terminator. The search writes the pair of each byte that it passes, so that each byte is
+// read once.
+fn draw_to_terminator(
+    screen: &[u8],
+    attribute: &[u8],
+    start: usize,
+    capacity: usize,
+    into: &mut [u8],
+) -> Terminator
+    requires { ⌜ length (now screen) ≡ screenBytes ⌝ }
+    requires { ⌜ length (now attribute) ≡ attributeBytes ⌝ }
+    requires { ⌜ (start < places) × (capacity ≤ recordPairs) ⌝ }
+    requires { ⌜ length (now into) ≡ recordBytes ⌝ }
+    ensures { λ r. ⌜ Found (now (screen .entry)) (now (attribute .entry)) start capacity (now (into .exit)) r ⌝ }
+{
+    let mut cell = 0;
+    while cell < capacity {
+        let character = chain::byte_at(screen, start + cell);
+        if character == chain::TERMINATOR {
+            return Terminator::After(cell);
+        }
+        let at = HEAD_BYTES + 2 * cell;
+        into[at] = character;
+        into[at + 1] = chain::byte_at(attribute, start + cell) % 16;
+        cell += 1;
+    }
+    if chain::byte_at(screen, start + cell) == chain::TERMINATOR {
+        return Terminator::After(cell);
+    }
+    Terminator::Missing
+}
+
+// The pairs after the last cell.
+fn fill(into: &mut [u8], cells: usize)
+    requires { ⌜ cells ≤ recordPairs ⌝ }
+    requires { ⌜ length (now into) ≡ recordBytes ⌝ }
+    ensures { λ _. ⌜ pairsOf (now (into .exit))
+        ≡ take (2 * cells) (pairsOf (now (into .entry))) ++ fillPairs (recordPairs - cells) ⌝ }
+{
+    let mut pair = cells;
+    while pair < RECORD_PAIRS {
+        let at = HEAD_BYTES + 2 * pair;
+        into[at] = 0x20;
+        into[at + 1] = 0x0E;
+        pair += 1;
+    }
+}
+
+fn write_head(into: &mut [u8], head: Head, count: u8)
+    requires { ⌜ head .start < places ⌝ }
+    requires { ⌜ headBytes ≤ length (now into) ⌝ }
+    ensures { λ _. ⌜ now (into .exit) ≡ header head count ++ pairsOf (now (into .entry)) ⌝ }
+{
+    let start = head.start;
+    into[0] = (start / 256) as u8;
+    into[1] = (start % 256) as u8;
+    into[2] = head.kind;
+    into[3] = count;
+}
+
+// What the cells leave to write of a record.
+fn finish(into: &mut [u8], head: Head, count: u8, cells: usize)
+    requires { ⌜ (head .start < places) × (cells ≤ recordPairs) ⌝ }
+    requires { ⌜ length (now into) ≡ recordBytes ⌝ }
+    ensures { λ _. ⌜ now (into .exit) ≡ finished head count cells (now (into .entry)) ⌝ }
+{
+    fill(into, cells);
+    write_head(into, head, count);
+}
+
+// A row that has its terminator: the link leads on.
+fn end_row(screen: &[u8], attribute: &[u8], head: Head, cells: usize, into: &mut [u8]) -> Walked
+    requires { ⌜ length (now screen) ≡ screenBytes ⌝ }
+    requires { ⌜ length (now attribute) ≡ attributeBytes ⌝ }
+    requires { ⌜ (head .start < places) × (cells ≤ recordPairs) ⌝ }
+    requires { ⌜ length (now into) ≡ recordBytes ⌝ }
+    ensures { λ r. ⌜ r ≡ wholeWalked (now (screen .entry)) (now (attribute .entry)) head cells ⌝ }
+    ensures { λ _. ⌜ now (into .exit) ≡ finished head cells cells (now (into .entry)) ⌝ }
+{
+    let next = chain::link(screen, attribute, head.start + cells);
+    finish(into, head, cells as u8, cells);
+    Walked {
+        reads: cells + 3,
+        next: Ahead::Row(next),
+    }
+}
+
+fn draw_row(columns: usize, screen: &[u8], attribute: &[u8], head: Head, into: &mut [u8]) -> Walked
+    requires { ⌜ length (now screen) ≡ screenBytes ⌝ }
+    requires { ⌜ length (now attribute) ≡ attributeBytes ⌝ }
+    requires { ⌜ (columns ≤ recordPairs) × (head .start < places) ⌝ }
+    requires { ⌜ length (now into) ≡ recordBytes ⌝ }
+    ensures { λ r. ⌜ r ≡ walked (chain columns (now (screen .entry)) (now (attribute .entry))) (Ahead.Row head) ⌝ }
+    ensures { λ _. ⌜ now (into .exit)
+        ≡ drawnAhead (chain columns (now (screen .entry)) (now (attribute .entry))) (Ahead.Row head) ⌝ }
+{
+    let capacity = chain::capacity(columns, head.kind);
+    let Terminator::After(cells) = draw_to_terminator(screen, attribute, head.start, capacity, into)
+    else {
+        finish(into, head, TORN, capacity);
+        return Walked {
+            reads: capacity + 1,
+            next: Ahead::Dark,
+        };
+    };
+    end_row(screen, attribute, head, cells, into)
+}
+
+// The record of the row that lies ahead.
+pub fn draw_ahead(
+    columns: usize,
+    screen: &[u8],
+    attribute: &[u8],
+    ahead: Ahead,
+    into: &mut [u8],
+) -> Walked
+    requires { ⌜ length (now screen) ≡ screenBytes ⌝ }
+    requires { ⌜ length (now attribute) ≡ attributeBytes ⌝ }
+    requires { ⌜ (columns ≤ recordPairs) × Placed ahead ⌝ }
+    requires { ⌜ length (now into) ≡ recordBytes ⌝ }
+    ensures { λ r. ⌜ r ≡ walked (chain columns (now (screen .entry)) (now (attribute .entry))) ahead ⌝ }
+    ensures { λ _. ⌜ now (into .exit)
+        ≡ drawnAhead (chain columns (now (screen .entry)) (now (attribute .entry))) ahead ⌝ }
+{
+    match ahead {
+        Ahead::Row(head) => draw_row(columns, screen, attribute, head, into),
+        Ahead::Dark => {
+            finish(into, Head::first(), DARK, 0);
+            Walked {
+                reads: 0,
+                next: ahead,
+            }
+        }
+    }
+}
