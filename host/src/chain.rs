@@ -30,11 +30,21 @@ struct Row {
 
 impl Row {
     fn dark() -> Self {
-        Self { start: 0, kind: 3, count: 254, cells: Vec::new() }
+        Self {
+            start: 0,
+            kind: 3,
+            count: 254,
+            cells: Vec::new(),
+        }
     }
 
     fn record(&self) -> Vec<u8> {
-        let mut bytes = vec![(self.start >> 8) as u8, self.start as u8, self.kind, self.count];
+        let mut bytes = vec![
+            (self.start >> 8) as u8,
+            self.start as u8,
+            self.kind,
+            self.count,
+        ];
         let fill = std::iter::repeat((0x20, 0x0E));
         for (character, attribute) in self.cells.iter().copied().chain(fill).take(132) {
             bytes.extend([character, attribute & 15]);
@@ -44,7 +54,12 @@ impl Row {
 }
 
 /// The row at a start, and where the chain goes on unless the row is torn.
-fn row(screen: &Counted, attribute: &[u8], columns: usize, (start, kind): (usize, u8)) -> (Row, Option<(usize, u8)>) {
+fn row(
+    screen: &Counted,
+    attribute: &[u8],
+    columns: usize,
+    (start, kind): (usize, u8),
+) -> (Row, Option<(usize, u8)>) {
     let capacity = match kind & 3 {
         3 => columns,
         _ => columns / 2,
@@ -56,11 +71,30 @@ fn row(screen: &Counted, attribute: &[u8], columns: usize, (start, kind): (usize
         if character == 0xFF {
             let low = screen.read(place + 1);
             let high = screen.read(place + 2) & 0x0F;
-            let next = (usize::from(u16::from_le_bytes([low, high])), attribute[(place + 1) % PLACES] & 7);
-            return (Row { start, kind, count: cells.len() as u8, cells }, Some(next));
+            let next = (
+                usize::from(u16::from_le_bytes([low, high])),
+                attribute[(place + 1) % PLACES] & 7,
+            );
+            return (
+                Row {
+                    start,
+                    kind,
+                    count: cells.len() as u8,
+                    cells,
+                },
+                Some(next),
+            );
         }
         if cells.len() == capacity {
-            return (Row { start, kind, count: 255, cells }, None);
+            return (
+                Row {
+                    start,
+                    kind,
+                    count: 255,
+                    cells,
+                },
+                None,
+            );
         }
         cells.push((character, attribute[place % PLACES]));
         place += 1;
@@ -77,7 +111,10 @@ pub fn draw(screen: &[u8], attribute: &[u8], columns: usize) -> Answer<Drawn> {
     if screen.len() != PLACES || attribute.len() != PLACES {
         return Err(1);
     }
-    let screen = Counted { bytes: screen, reads: Cell::new(0) };
+    let screen = Counted {
+        bytes: screen,
+        reads: Cell::new(0),
+    };
     let mut picture = Vec::new();
     let mut ahead = Some((0, 3));
     for _ in 0..ROWS {
@@ -91,7 +128,10 @@ pub fn draw(screen: &[u8], attribute: &[u8], columns: usize) -> Answer<Drawn> {
         };
         picture.extend(shown.record());
     }
-    Ok(Drawn { reads: screen.reads.get(), picture })
+    Ok(Drawn {
+        reads: screen.reads.get(),
+        picture,
+    })
 }
 
 /// What the row lister prints for an input.

@@ -18,7 +18,11 @@ pub struct View8088 {
 
 impl View8088 {
     pub fn new(shared: usize, screen: usize, attribute: usize) -> Self {
-        Self { shared: vec![0; shared], screen: vec![0; screen], attribute: vec![0; attribute] }
+        Self {
+            shared: vec![0; shared],
+            screen: vec![0; screen],
+            attribute: vec![0; attribute],
+        }
     }
 
     /// The byte at an address, or the number of refusal.
@@ -72,5 +76,8 @@ pub fn shadow_write(shadow: &mut [u8], place: usize, value: u8) -> Answer<()> {
     if shadow.len() != SHADOW {
         return Err(1);
     }
-    shadow.get_mut(place).map(|byte| *byte = value & 15).ok_or(5)
+    shadow
+        .get_mut(place)
+        .map(|byte| *byte = value & 15)
+        .ok_or(5)
 }

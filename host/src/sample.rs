@@ -21,7 +21,11 @@ struct Line {
 }
 
 fn line(kind: u8, attribute: u8, text: &str) -> Line {
-    Line { kind, attribute, text: text.to_string() }
+    Line {
+        kind,
+        attribute,
+        text: text.to_string(),
+    }
 }
 
 /// Number, ear tag, name, tenths of a litre, hundredths of a per cent of fat, on hold.
@@ -44,12 +48,20 @@ const COWS: [(u16, u32, &str, u16, u16, bool); 14] = [
 
 fn lines() -> Vec<Line> {
     let mut all = vec![
-        line(NORMAL, PLAIN, " HERD BOOK 2.1          FARM 4711          MORNING MILKING          15-NOV-85"),
+        line(
+            NORMAL,
+            PLAIN,
+            " HERD BOOK 2.1          FARM 4711          MORNING MILKING          15-NOV-85",
+        ),
         line(TOP, BOLD, "         COLLECTION LIST"),
         line(BOTTOM, BOLD, "         COLLECTION LIST"),
         line(WIDE, PLAIN, " TANKER 3   BULK TANK 2   08:40"),
         line(NORMAL, PLAIN, ""),
-        line(NORMAL, UNDERLINE, "   NO   EAR TAG   NAME            LITRES   FAT %   HOLD"),
+        line(
+            NORMAL,
+            UNDERLINE,
+            "   NO   EAR TAG   NAME            LITRES   FAT %   HOLD",
+        ),
     ];
     for (number, tag, name, litres, fat, hold) in COWS {
         let milk = format!("{:>6}.{}", litres / 10, litres % 10);
@@ -61,9 +73,21 @@ fn lines() -> Vec<Line> {
     }
     let litres: u16 = COWS.iter().filter(|cow| !cow.5).map(|cow| cow.3).sum();
     all.push(line(NORMAL, PLAIN, ""));
-    all.push(line(NORMAL, BOLD, &format!("        TO THE TANKER {:>20}.{} LITRES", litres / 10, litres % 10)));
+    all.push(line(
+        NORMAL,
+        BOLD,
+        &format!(
+            "        TO THE TANKER {:>20}.{} LITRES",
+            litres / 10,
+            litres % 10
+        ),
+    ));
     all.push(line(NORMAL, PLAIN, ""));
-    all.push(line(NORMAL, REVERSE, " F1 NEXT PAGE   F2 PRINT   F3 HOLD OR RELEASE   F4 LEAVE"));
+    all.push(line(
+        NORMAL,
+        REVERSE,
+        " F1 NEXT PAGE   F2 PRINT   F3 HOLD OR RELEASE   F4 LEAVE",
+    ));
     all
 }
 
@@ -71,7 +95,10 @@ fn lines() -> Vec<Line> {
 fn order(lines: usize) -> Vec<usize> {
     let table = 6..20;
     let moved = table.clone().skip(5).chain(table.clone().take(5));
-    (0..table.start).chain(moved).chain(table.end..lines).collect()
+    (0..table.start)
+        .chain(moved)
+        .chain(table.end..lines)
+        .collect()
 }
 
 /// The screen memory and the attribute memory, one after the other.

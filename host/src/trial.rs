@@ -9,5 +9,7 @@ pub fn added(sum: u32, number: u32) -> u32 {
 }
 
 pub fn summed<'a>(sum: u32, bytes: impl IntoIterator<Item = &'a u8>) -> u32 {
-    bytes.into_iter().fold(sum, |sum, byte| added(sum, (*byte).into()))
+    bytes
+        .into_iter()
+        .fold(sum, |sum, byte| added(sum, (*byte).into()))
 }

@@ -26,7 +26,15 @@ impl Chance {
 
 /// Bytes of which one in `every` is FF and the others are under `under`.
 fn strewn(chance: &mut Chance, every: usize, under: usize) -> Vec<u8> {
-    (0..PLACES).map(|_| if chance.below(every) == 0 { 0xFF } else { chance.below(under) as u8 }).collect()
+    (0..PLACES)
+        .map(|_| {
+            if chance.below(every) == 0 {
+                0xFF
+            } else {
+                chance.below(under) as u8
+            }
+        })
+        .collect()
 }
 
 /// A chain laid through memory: each row ends a chosen number of bytes after its start, most often at
@@ -74,7 +82,9 @@ fn input(chance: &mut Chance) -> Vec<u8> {
     }
     let mut bytes = [screen, attribute].concat();
     if chance.below(12) == 0 {
-        let lengths = [0, 1, 2, 81, 4095, 4096, 4097, 8190, 8191, 8193, 8194, 12288, 16384, 70000];
+        let lengths = [
+            0, 1, 2, 81, 4095, 4096, 4097, 8190, 8191, 8193, 8194, 12288, 16384, 70000,
+        ];
         bytes.resize(chance.of(&lengths), 0x41);
     }
     bytes
@@ -82,11 +92,16 @@ fn input(chance: &mut Chance) -> Vec<u8> {
 
 /// What the lister prints, given the input in pieces.
 fn printed(lister: &str, input: &[u8], chance: &mut Chance) -> std::io::Result<Vec<u8>> {
-    let mut child = Command::new(lister).stdin(Stdio::piped()).stdout(Stdio::piped()).spawn()?;
+    let mut child = Command::new(lister)
+        .stdin(Stdio::piped())
+        .stdout(Stdio::piped())
+        .spawn()?;
     let mut to = child.stdin.take().unwrap();
     let mut left = input;
     while !left.is_empty() {
-        let piece = chance.of(&[1, 7, 100, 4095, 4096, 4097, 100_000]).min(left.len());
+        let piece = chance
+            .of(&[1, 7, 100, 4095, 4096, 4097, 100_000])
+            .min(left.len());
         if to.write_all(&left[..piece]).is_err() {
             break; // it has read one byte too many, and that is enough for it
         }
@@ -115,7 +130,10 @@ fn main() -> std::io::Result<()> {
         if text != wanted.as_bytes() {
             std::fs::write("differs.bin", &input)?;
             println!("screen {screen} differs; its input is in differs.bin");
-            println!("wanted:\n{wanted}printed:\n{}", String::from_utf8_lossy(&text));
+            println!(
+                "wanted:\n{wanted}printed:\n{}",
+                String::from_utf8_lossy(&text)
+            );
             exit(1);
         }
         match &wanted {

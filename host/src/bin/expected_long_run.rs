@@ -34,7 +34,9 @@ impl Run {
 
     fn by_8088(&mut self) {
         let (a, b) = (self.next(), self.next());
-        let edges = [0x00000, 0x007F0, 0x0FFF0, 0xEDFF0, 0xEEFF0, 0xEFFF0, 0xEE000, 0xFFFFFFE0];
+        let edges = [
+            0x00000, 0x007F0, 0x0FFF0, 0xEDFF0, 0xEEFF0, 0xEFFF0, 0xEE000, 0xFFFFFFE0,
+        ];
         let at = edges[(a >> 16 & 7) as usize] + (b >> 16 & 31);
         if b >> 23 & 1 == 0 {
             let answer = self.view.store(at, (a >> 24) as u8);
@@ -76,7 +78,9 @@ impl Run {
             0x0A => n,
             _ => n % 14,
         };
-        let answer = self.machine.write(&mut self.shadow, &mut self.nvm, port, code as u8);
+        let answer = self
+            .machine
+            .write(&mut self.shadow, &mut self.nvm, port, code as u8);
         self.add(refusal(&answer).into());
         let m = self.machine;
         for field in [
@@ -96,8 +100,14 @@ impl Run {
 
     /// The sum with every byte of the memories in it; the run itself goes on without them.
     fn told(&self) -> u32 {
-        let memories =
-            [&self.view.shared, &self.private, &self.view.screen, &self.view.attribute, &self.shadow, &self.nvm];
+        let memories = [
+            &self.view.shared,
+            &self.private,
+            &self.view.screen,
+            &self.view.attribute,
+            &self.shadow,
+            &self.nvm,
+        ];
         trial::summed(self.sum, memories.into_iter().flatten())
     }
 }

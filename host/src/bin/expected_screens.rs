@@ -9,14 +9,21 @@ fn strewn(seed: &mut u32, every: u32, under: u32) -> Vec<u8> {
         .map(|_| {
             let a = next(*seed);
             *seed = next(a);
-            if (a >> 16) % every == 0 { 0xFF } else { ((*seed >> 16) % under) as u8 }
+            if (a >> 16) % every == 0 {
+                0xFF
+            } else {
+                ((*seed >> 16) % under) as u8
+            }
         })
         .collect()
 }
 
 fn drawn(sum: u32, screen: &[u8], attribute: &[u8], columns: usize) -> (u32, Vec<u8>) {
     let drawn = draw(screen, attribute, columns).ok().unwrap();
-    (summed(added(added(sum, 0), drawn.reads as u32), &drawn.picture), drawn.picture)
+    (
+        summed(added(added(sum, 0), drawn.reads as u32), &drawn.picture),
+        drawn.picture,
+    )
 }
 
 fn strewn_screens() {
@@ -48,7 +55,9 @@ fn edges() {
                 }
                 let (sum, picture) = drawn(0, &screen, &attribute, columns);
                 let count = picture[RECORD + 3];
-                println!("columns {columns} kind {kind} FF after {after} count {count} sum {sum:08x}");
+                println!(
+                    "columns {columns} kind {kind} FF after {after} count {count} sum {sum:08x}"
+                );
             }
         }
     }
@@ -72,7 +81,9 @@ fn refused() {
             _ => (1, 0, vec![0x55; length]),
         };
         let sum = summed(0, &picture);
-        println!("lent {screen} {attribute} {length} refusal {refusal} reads {reads} sum {sum:08x}");
+        println!(
+            "lent {screen} {attribute} {length} refusal {refusal} reads {reads} sum {sum:08x}"
+        );
     }
 }
 

@@ -35,7 +35,7 @@ byte-at-requires-3 c κs = search needs
 
 returns : tie.Need-returns
 unfolding link
-returns c = cc
+returns c = rw (c .before .before .byte-at .ensures, c .before .byte-at2 .ensures, c .byte-at3 .ensures)
 
 pub link-spec : {M : Type 1} → statement M
 link-spec =

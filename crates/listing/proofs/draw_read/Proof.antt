@@ -9,7 +9,7 @@ use Rattle.listing.proofs.draw_read.Tie as tie
 
 returns : tie.Need-returns
 unfolding drawing
-returns c = rw (ne-eqb _ _ (c .if1 .taken))
+returns c = rw (ne-eqb _ 0 (c .if1 .taken))
 
 power-up-requires : tie.Need-power-up-requires
 power-up-requires c κs = search needs

@@ -17,7 +17,7 @@ shared-slice-read-count c = search needs
 
 returns : tie.Need-returns
 unfolding lineOf
-returns c = (rw (eq-eqb _ _ (c .if1 .taken)) put-none, omega arith)
+returns c = (rw (eq-eqb _ 254 (c .if1 .taken)) put-none, omega arith)
 
 cast-put-line : tie.Need-cast-put-line
 cast-put-line c = search needs
@@ -48,7 +48,7 @@ unfolding lineOf
 returns-2 c =
     let p = c .before .before in
     let lit = p .before .before .before .before .before .if1 .left in
-    (rw (ne-eqb _ _ lit) (p .put-line .ensures .0), p .put-line .ensures .1)
+    (rw (ne-eqb _ 254 lit) (p .put-line .ensures .0), p .put-line .ensures .1)
 
 pub put-row-spec : {M : Type 1} → statement M
 put-row-spec =
