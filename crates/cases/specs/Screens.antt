@@ -9,13 +9,6 @@ use Rattle.records.specs.Record.{recordBytes}
 use Rattle.picture.specs.Draw.{DrawnPicture, draw}
 use Rattle.cases.specs.Said.{Said, Row, Start, Count, Reads}
 
--- the counts of a torn and of a dark row
-abbrev pub torn : ℕ
-torn = 255
-
-abbrev pub dark : ℕ
-dark = 254
-
 -- rows that are alike, so many from `row` on
 unfoldable pub alikeFrom : (row start kind count more : ℕ) → List Said
 alikeFrom row start kind count zero = []

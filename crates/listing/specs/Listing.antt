@@ -9,7 +9,7 @@ use Rattle.lent.specs.Refusals.{accepted, lengthRefused}
 use Rattle.machine.specs.Power.{powerUp}
 use Rattle.machine.specs.Settings.{columns}
 use Rattle.chain.specs.Chain.{rows}
-use Rattle.records.specs.Record.{recordBytes}
+use Rattle.records.specs.Record.{recordBytes, tornCount, darkCount}
 use Rattle.picture.specs.Draw.{DrawnPicture, drawn, draw}
 use Rattle.ascii.specs.Ascii.{ascii}
 use Rattle.ascii.specs.Numbers.{decimal, hex}
@@ -23,7 +23,7 @@ heading columns reads = ascii "columns " ++ decimal columns ++ ascii " reads " +
 
 -- the count in decimal, or that the row is torn
 unfoldable pub counted : ℕ → List ℕ
-counted count = cond (eqb count 255) (ascii "torn") (decimal count)
+counted count = cond (eqb count tornCount) (ascii "torn") (decimal count)
 
 -- "row, start in four capital hex digits, kind, count in decimal"; the start is two bytes, the high one first
 unfoldable pub rowAndStart : (row high low : ℕ) → List ℕ
@@ -37,10 +37,9 @@ line row high low kind count =
 unfoldable pub lineOf : List ℕ → ℕ → List ℕ
 lineOf picture row =
     let at = row * recordBytes in
-    let shown =
-    line row (getD picture at 0) (getD picture (at + 1) 0) (getD picture (at + 2) 0) (getD picture (at + 3) 0)
-    in
-    cond (eqb (getD picture (at + 3) 0) 254) [] shown
+    let count = getD picture (at + 3) 0 in
+    cond (eqb count darkCount) []
+    (line row (getD picture at 0) (getD picture (at + 1) 0) (getD picture (at + 2) 0) count)
 
 -- the lines of the first rows
 unfoldable pub linesTo : List ℕ → ℕ → List ℕ

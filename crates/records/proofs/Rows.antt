@@ -10,7 +10,7 @@ use Rattle.chain.specs.declared.Terminator.{Terminator}
 use Rattle.chain.specs.declared.Terminator.the-variants.{After, Missing}
 use Rattle.chain.specs.declared.Ahead.the-variants.{Row, Dark}
 use Rattle.chain.proofs.Laws.{found-within}
-use Rattle.records.specs.Record.{recordPairs, recordOf}
+use Rattle.records.specs.Record.{recordPairs, tornCount, recordOf}
 use Rattle.records.specs.Walked.{Found, finished, wholeWalked, walked, drawnAhead}
 
 -- the cells of a whole row are no more than a record's pairs
@@ -37,7 +37,7 @@ module _
     unfolding reads
     torn-walked = rw (row-found, torn, is)
 
-    pub torn-drawn : finished head 255 cap drawn ≡ drawnAhead c (Row head)
+    pub torn-drawn : finished head tornCount cap drawn ≡ drawnAhead c (Row head)
     unfolding recordOf
     torn-drawn = rw (row-found, torn, rw torn at (f .written), is)
 

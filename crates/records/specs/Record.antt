@@ -24,10 +24,16 @@ cellPairs screen attribute start (suc cell) =
     ++ (byteAt screen (start + cell) ∷ byteAt attribute (start + cell) % 16 ∷ [])
 
 -- "Count is the cells before FF, 255 if torn, 254 if dark."
+abbrev pub tornCount : ℕ
+tornCount = 255
+
+abbrev pub darkCount : ℕ
+darkCount = 254
+
 abbrev pub count : Row → ℕ
 count (Whole head cells) = cells
-count (Torn head) = 255
-count Dark = 254
+count (Torn head) = tornCount
+count Dark = darkCount
 
 -- a whole row's cells; a torn row "shows its capacity cells"; a dark one has none
 abbrev pub cellsShown : Chain → Row → ℕ

@@ -1,5 +1,5 @@
 //! What the program crates/screens must write, by the model.
-use host::chain::{draw, PICTURE, PLACES, RECORD};
+use host::chain::{draw, listing, PICTURE, PLACES, RECORD};
 use host::trial::{added, next, summed};
 
 const SCREENS: u32 = 60;
@@ -87,8 +87,16 @@ fn refused() {
     }
 }
 
+/// The row lister on 00s: the whole memories, nothing, half, one byte less and one more.
+fn listed() {
+    for length in [2 * PLACES, 0, PLACES, 2 * PLACES - 1, 2 * PLACES + 1] {
+        print!("{}", listing(&vec![0; length]));
+    }
+}
+
 fn main() {
     strewn_screens();
     edges();
     refused();
+    listed();
 }

@@ -1,6 +1,7 @@
 use native.Mathlib.Omega.{arith}
 use borrow.Author.Tests.{eq-eqb, ne-eqb}
 use borrow.Author.Needs.{needs}
+use Rattle.records.specs.Record.{darkCount}
 use Rattle.ascii.proofs.Laws.{put-none}
 use Rattle.listing.specs.Listing.{lineOf}
 use Rattle.listing.proofs.put_row.Statement.{statement}
@@ -17,7 +18,7 @@ shared-slice-read-count c = search needs
 
 returns : tie.Need-returns
 unfolding lineOf
-returns c = (rw (eq-eqb _ 254 (c .if1 .taken)) put-none, omega arith)
+returns c = (rw (eq-eqb _ darkCount (c .if1 .taken)) put-none, omega arith)
 
 cast-put-line : tie.Need-cast-put-line
 cast-put-line c = search needs
@@ -48,7 +49,7 @@ unfolding lineOf
 returns-2 c =
     let p = c .before .before in
     let lit = p .before .before .before .before .before .if1 .left in
-    (rw (ne-eqb _ 254 lit) (p .put-line .ensures .0), p .put-line .ensures .1)
+    (rw (ne-eqb _ darkCount lit) (p .put-line .ensures .0), p .put-line .ensures .1)
 
 pub put-row-spec : {M : Type 1} → statement M
 put-row-spec =
