@@ -4,6 +4,7 @@ use mathlib.Core.Bool.{true, false}
 use lib.ListN.{replicate}
 use Rattle.lent.specs.Lengths.{screenBytes, attributeBytes}
 use Rattle.machine.specs.Power.{powerUp}
+use Rattle.chain.specs.Chain.{normal, doubleWidth}
 use Rattle.records.specs.Record.{tornCount, darkCount}
 use Rattle.cases.specs.Said.{Case, Private, Shared, Screen, Attribute, Refused, Interlaced, Recalls, Row, Start, Count, Reads}
 use Rattle.cases.specs.Screens.{alike, drawnAll, startOfRow, countOfRow}
@@ -25,15 +26,15 @@ screens =
       says = Reads 81 ∷ Row 0 0 3 tornCount ∷ alike 1 23 0 3 darkCount;
     }
     -- P3: FF 50 01: next start 336
-    ∷ record { gives = startOfRow 1 (0xFF ∷ 0x50 ∷ 0x01 ∷ []) 0x03; says = Start 336 ∷ [] }
+    ∷ record { gives = startOfRow 1 (0xFF ∷ 0x50 ∷ 0x01 ∷ []) normal; says = Start 336 ∷ [] }
     -- P4: FF 50 F1: next start 336
-    ∷ record { gives = startOfRow 1 (0xFF ∷ 0x50 ∷ 0xF1 ∷ []) 0x03; says = Start 336 ∷ [] }
+    ∷ record { gives = startOfRow 1 (0xFF ∷ 0x50 ∷ 0xF1 ∷ []) normal; says = Start 336 ∷ [] }
     -- P5: normal, 80: first FF 80 or 81 bytes after the start: count 80; torn
-    ∷ record { gives = countOfRow 0 (replicate 80 0x41 ++ (0xFF ∷ [])) 0x03; says = Count 80 ∷ [] }
-    ∷ record { gives = countOfRow 0 (replicate 81 0x41 ++ (0xFF ∷ [])) 0x03; says = Count tornCount ∷ [] }
+    ∷ record { gives = countOfRow 0 (replicate 80 0x41 ++ (0xFF ∷ [])) normal; says = Count 80 ∷ [] }
+    ∷ record { gives = countOfRow 0 (replicate 81 0x41 ++ (0xFF ∷ [])) normal; says = Count tornCount ∷ [] }
     -- P6: double width, 80: FF 40 or 41 after: count 40; torn. Row 1 starts at place 3
-    ∷ record { gives = countOfRow 1 (0xFF ∷ 3 ∷ 0 ∷ replicate 40 0x41 ++ (0xFF ∷ [])) 0x02; says = Count 40 ∷ [] }
-    ∷ record { gives = countOfRow 1 (0xFF ∷ 3 ∷ 0 ∷ replicate 41 0x41 ++ (0xFF ∷ [])) 0x02; says = Count tornCount ∷ [] }
+    ∷ record { gives = countOfRow 1 (0xFF ∷ 3 ∷ 0 ∷ replicate 40 0x41 ++ (0xFF ∷ [])) doubleWidth; says = Count 40 ∷ [] }
+    ∷ record { gives = countOfRow 1 (0xFF ∷ 3 ∷ 0 ∷ replicate 41 0x41 ++ (0xFF ∷ [])) doubleWidth; says = Count tornCount ∷ [] }
     ∷ []
 
 -- P7, P8

@@ -24,13 +24,25 @@ places = 4096
 unfoldable pub byteAt : List ℕ → ℕ → ℕ
 byteAt memory place = getD memory (place % places) 0
 
--- "Bits 1,0 read: 00 bottom half of double height, 01 top half, 10 double width, 11 normal. The first three are the wide
--- kinds."
+-- "Bits 1,0 read: 00 bottom half of double height, 01 top half, 10 double width, 11 normal."
+abbrev pub bottomHalf : ℕ
+bottomHalf = 0
+
+abbrev pub topHalf : ℕ
+topHalf = 1
+
+abbrev pub doubleWidth : ℕ
+doubleWidth = 2
+
 abbrev pub normal : ℕ
 normal = 3
 
+abbrev pub bits10 : ℕ → ℕ
+bits10 kind = kind % 4
+
+-- "The first three are the wide kinds."
 abbrev pub wide : ℕ → Bool
-wide kind = ltb (kind % 4) normal
+wide kind = ltb (bits10 kind) normal
 
 -- "The capacity of a line is the column setting, 80 or 132, and half of it for the three wide kinds."
 unfoldable pub capacity : ℕ → ℕ → ℕ
