@@ -1,3 +1,4 @@
 pub mod Chain
 pub mod Reading
 pub mod Ahead
+pub mod Alike

@@ -1,3 +1,4 @@
 pub mod Laws
 pub mod Cells
 pub mod Rows
+pub mod Alike

@@ -11,7 +11,7 @@ use machine::Machine;
 // Where row 1 starts, so that it goes on past place 4095.
 const START: usize = 4000;
 
-// The first rows of a picture: its second record's count.
+// One such screen: row 1's count, and the sum.
 fn told(machine: Machine, kind: u8, after: usize)
     requires { ⌜ after < 4000 ⌝ }
 {
