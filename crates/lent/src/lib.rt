@@ -2,6 +2,8 @@
 // refusal, and the answer of a call that reads a byte. Document 01, "Lent memory" and "Numbers of
 // refusal".
 ghost use mathlib.Core.Path.{_≡_};
+ghost use mathlib.Core.Bool.{_&&_};
+ghost use lib.Dec.{eqb};
 ghost use Rattle.lent.specs.Answer.{byteRead, readRefused};
 
 pub const SHARED_BYTES: usize = 65536;
@@ -32,6 +34,25 @@ pub const CODE: u8 = 4;
 pub const PLACE: u8 = 5;
 // Bits 6 and 7 of 0A both rise in one write.
 pub const EDGES: u8 = 6;
+
+// Whether lengths are those of the list: a is to be x, b y and c z.
+pub fn two_lengths(a: usize, x: usize, b: usize, y: usize) -> bool
+    ensures { λ r. ⌜ r ≡ eqb a x && eqb b y ⌝ }
+{
+    if a != x {
+        return false;
+    }
+    b == y
+}
+
+pub fn three_lengths(a: usize, x: usize, b: usize, y: usize, c: usize, z: usize) -> bool
+    ensures { λ r. ⌜ r ≡ eqb a x && (eqb b y && eqb c z) ⌝ }
+{
+    if a != x {
+        return false;
+    }
+    two_lengths(b, y, c, z)
+}
 
 // The answer of a call that reads a byte: the byte, or a refusal beside which the byte is 0.
 pub struct ByteRead {

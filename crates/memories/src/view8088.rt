@@ -39,13 +39,14 @@ fn seen_8088(address: u32) -> Seen
 fn lengths_8088(shared: usize, screen: usize, attribute: usize) -> bool
     ensures { λ r. ⌜ r ≡ lengths8088 shared screen attribute ⌝ }
 {
-    if shared != lent::SHARED_BYTES {
-        return false;
-    }
-    if screen != lent::SCREEN_BYTES {
-        return false;
-    }
-    attribute == lent::ATTRIBUTE_BYTES
+    lent::three_lengths(
+        shared,
+        lent::SHARED_BYTES,
+        screen,
+        lent::SCREEN_BYTES,
+        attribute,
+        lent::ATTRIBUTE_BYTES,
+    )
 }
 
 pub fn read_8088(shared: &[u8], screen: &[u8], attribute: &[u8], address: u32) -> ByteRead

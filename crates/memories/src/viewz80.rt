@@ -10,10 +10,7 @@ const SHARED_FROM: usize = 0x0800;
 fn lengths_z80(private: usize, shared: usize) -> bool
     ensures { λ r. ⌜ r ≡ lengthsZ80 private shared ⌝ }
 {
-    if private != lent::PRIVATE_BYTES {
-        return false;
-    }
-    shared == lent::SHARED_BYTES
+    lent::two_lengths(private, lent::PRIVATE_BYTES, shared, lent::SHARED_BYTES)
 }
 
 pub fn read_z80(private: &[u8], shared: &[u8], address: u16) -> ByteRead

@@ -22,13 +22,14 @@ pub struct Drawn {
 fn lengths_picture(screen: usize, attribute: usize, picture: usize) -> bool
     ensures { λ r. ⌜ r ≡ lengthsPicture screen attribute picture ⌝ }
 {
-    if screen != lent::SCREEN_BYTES {
-        return false;
-    }
-    if attribute != lent::ATTRIBUTE_BYTES {
-        return false;
-    }
-    picture == lent::PICTURE_BYTES
+    lent::three_lengths(
+        screen,
+        lent::SCREEN_BYTES,
+        attribute,
+        lent::ATTRIBUTE_BYTES,
+        picture,
+        lent::PICTURE_BYTES,
+    )
 }
 
 fn draw_rows(columns: usize, screen: &[u8], attribute: &[u8], picture: &mut [u8]) -> usize

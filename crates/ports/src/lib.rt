@@ -40,10 +40,7 @@ pub fn write_port(
 fn lengths_nvm(shadow: usize, nvm: usize) -> bool
     ensures { λ r. ⌜ r ≡ lengthsNvm shadow nvm ⌝ }
 {
-    if shadow != lent::SHADOW_BYTES {
-        return false;
-    }
-    nvm == lent::NVM_BYTES
+    lent::two_lengths(shadow, lent::SHADOW_BYTES, nvm, lent::NVM_BYTES)
 }
 
 // An accepted write to a port of the DC012 also enables or disables the watchdog; a refused one does
