@@ -1,4 +1,4 @@
--- A row is what it reads: the statement of specs/Alike.antt.
+-- Rows are what they read: the statements of specs/Alike.antt.
 use Prim.Native.Nat.{ℕ, zero, suc, _+_, _%_, _≤_, _<_}
 use mathlib.Core.Path.{_≡_, refl, sym, ap, _∙_}
 use mathlib.Core.List.{List, _++_}
@@ -7,14 +7,16 @@ use native.Mathlib.Nat.{mod-mod, add-zero, add-assoc}
 use native.Mathlib.Omega.{arith}
 use lib.ListN.{getD}
 use lib.Dec.{eqb}
-use Rattle.chain.specs.Chain.{Chain, places, byteAt, capacity, firstFF, terminator, ended, link, rowFrom}
+use Rattle.chain.specs.Chain.{Chain, places, byteAt, capacity, firstFF, terminator, ended, link, rowFrom, rowAt}
 use Rattle.chain.specs.Reading.{from, screenRead, attributeRead}
-use Rattle.chain.specs.Ahead.{aheadAfter}
-use Rattle.chain.specs.Alike.{bytesAt, ReadAlike, RowIsWhatItReads}
+use Rattle.chain.specs.Ahead.{rowAhead, aheadAfter, aheadOf}
+use Rattle.chain.specs.Alike.{bytesAt, ReadAlike, RowIsWhatItReads, RowsAreWhatTheyRead}
 use Rattle.chain.specs.declared.Head.{Head}
 use Rattle.chain.specs.declared.Terminator.{Terminator}
 use Rattle.chain.specs.declared.Terminator.the-variants.{After, Missing}
-use Rattle.chain.specs.declared.Ahead.the-variants.{Row as RowAhead}
+use Rattle.chain.specs.declared.Ahead.{Ahead}
+use Rattle.chain.specs.declared.Ahead.the-variants.{Row as RowAhead, Dark as DarkAhead}
+use Rattle.chain.proofs.Laws.{ahead-leads}
 
 -- a place and the place modulo 4,096 are one
 same-place : (s : List ℕ) (place : ℕ) → byteAt s (place % places) ≡ byteAt s place
@@ -148,3 +150,34 @@ module _ (c d : Chain) (head : Head) where
 pub row-is-what-it-reads : RowIsWhatItReads
 unfolding rowFrom
 row-is-what-it-reads c d head = row-alike c d head (terminator c head) refl
+
+module _ (c d : Chain) where
+  -- what lies ahead leads to the same in both where the row reads alike
+  ahead-alike :
+      (ahead : Ahead) → ReadAlike c d (rowAhead c ahead)
+      → (rowAhead d ahead ≡ rowAhead c ahead) × (aheadAfter d (rowAhead c ahead) ≡ aheadAfter c (rowAhead c ahead))
+  ahead-alike (RowAhead head) alike = row-is-what-it-reads c d head alike
+  ahead-alike DarkAhead alike = (refl, refl)
+
+  -- a row that the walk comes to alike in both
+  row-at-alike :
+      (n : ℕ) → ReadAlike c d (rowAt c n) → aheadOf d n ≡ aheadOf c n
+      → (rowAt d n ≡ rowAt c n) × (aheadOf d (suc n) ≡ aheadOf c (suc n))
+  unfolding aheadOf
+  row-at-alike n alike same =
+      let leads = ahead-leads c n in
+      let both = ahead-alike (aheadOf c n) (rw leads alike) in
+      let row : rowAt d n ≡ rowAt c n = sym (ahead-leads d n) ∙ ap (rowAhead d) same ∙ both .0 ∙ leads in
+      (row, ap (aheadAfter d) row ∙ rw leads at (both .1))
+
+  come-to-alike : (n : ℕ) → ((row : ℕ) → row < n → ReadAlike c d (rowAt c row)) → aheadOf d n ≡ aheadOf c n
+  unfolding aheadOf
+  come-to-alike zero alike = refl
+  come-to-alike (suc n) alike =
+      row-at-alike n (alike n (omega arith)) (come-to-alike n (λ row h. alike row (omega arith))) .1
+
+pub rows-are-what-they-read : RowsAreWhatTheyRead
+rows-are-what-they-read c d n alike = (
+  come-to-alike c d n alike,
+  λ row h. row-at-alike c d row (alike row h) (come-to-alike c d row (λ r g. alike r (omega arith))) .0,
+)

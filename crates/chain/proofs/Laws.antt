@@ -1,14 +1,16 @@
 -- Laws about the chain: the search for a terminator, a line's capacity, what lies ahead.
 use Prim.Native.Nat.{ℕ, zero, suc, _+_, _-_, _/_, _≤_, _<_}
-use mathlib.Core.Path.{_≡_, refl, sym, _∙_}
+use mathlib.Core.Path.{_≡_, refl, sym, ap, _∙_}
 use mathlib.Core.List.{List}
 use mathlib.Core.Bool.{Bool, true, false, cond}
 use native.Mathlib.Nat.{mod-lt}
 use native.Mathlib.Omega.{arith}
 use lib.Dec.{eqb}
 use borrow.Author.Tests.{eq-eqb, ne-eqb}
-use Rattle.chain.specs.Chain.{Chain, Row as ARow, Whole, Torn, Dark as DarkRow, byteAt, wide, capacity, firstFF, link, next}
-use Rattle.chain.specs.Ahead.{rowAhead, aheadAfter, Placed}
+use Rattle.chain.specs.Chain.{Chain, Row as ARow, Whole, Torn, Dark as DarkRow, byteAt, wide, capacity, firstFF, terminator, link, ended, rowFrom, next, rowAt}
+use Rattle.chain.specs.Ahead.{rowAhead, aheadAfter, aheadOf, Placed}
+use Rattle.chain.specs.declared.Head.{Head}
+use Rattle.chain.specs.declared.Terminator.{Terminator}
 use Rattle.chain.specs.declared.Terminator.the-variants.{After, Missing}
 
 -- the search through `bytes` bytes that has passed `cells` of them and reads the next
@@ -57,6 +59,13 @@ capacity-within columns kind = go (wide kind)
     go true = omega arith
     go false = omega arith
 
+-- the row that a search for its terminator finds
+pub row-found :
+    (c : Chain) (head : Head) {cap : ℕ} {t : Terminator} → cap ≡ capacity (c .columns) (head .kind)
+    → t ≡ firstFF (c .screen) (head .start) 0 (cap + 1) → rowFrom c head ≡ ended head t
+unfolding rowFrom terminator
+row-found c head is found = ap (ended head) (ap (λ (n : ℕ). firstFF (c .screen) (head .start) 0 (n + 1)) (sym is) ∙ sym found)
+
 -- what lies ahead after a row is the row after it, and starts at a place
 pub leads-on : (c : Chain) (row : ARow) → rowAhead c (aheadAfter c row) ≡ next c row
 unfolding next
@@ -64,8 +73,42 @@ leads-on c (Whole head cells) = refl
 leads-on c (Torn head) = refl
 leads-on c DarkRow = refl
 
+pub ahead-leads : (c : Chain) (row : ℕ) → rowAhead c (aheadOf c row) ≡ rowAt c row
+unfolding aheadOf rowAt
+ahead-leads c zero = refl
+ahead-leads c (suc row) = leads-on c (rowAt c row)
+
 pub placed-after : (c : Chain) (row : ARow) → Placed (aheadAfter c row)
 unfolding link
 placed-after c (Whole head cells) = mod-lt _ (omega arith)
 placed-after c (Torn head) = tt
 placed-after c DarkRow = tt
+
+pub ahead-placed : (c : Chain) (row : ℕ) → Placed (aheadOf c row)
+unfolding aheadOf
+ahead-placed c zero = omega arith
+ahead-placed c (suc row) = placed-after c (rowAt c row)
+
+-- the search that draws nothing: what holds when so many bytes have been passed
+pub record Sought (screen : List ℕ) (start bytes cells : ℕ) : Type 0 where
+  pub within : cells ≤ bytes
+  pub search-left : firstFF screen start 0 bytes ≡ firstFF screen start cells (bytes - cells)
+
+pub none-sought : (screen : List ℕ) (start bytes : ℕ) → Sought screen start bytes 0
+none-sought screen start bytes = record { within = omega arith; search-left = ap (firstFF screen start 0) (omega arith) }
+
+module _ {screen : List ℕ} {start bytes cells byte : ℕ} (s : Sought screen start bytes cells) where
+  pub sought-on :
+      byte ≡ byteAt screen (start + cells) → cells < bytes → (byte ≡ 0xFF → ⊥) → Sought screen start bytes (cells + 1)
+  sought-on read more h =
+      record { within = omega arith; search-left = s .search-left ∙ search-goes-on screen start bytes cells read more h }
+
+  pub sought-found :
+      byte ≡ byteAt screen (start + cells) → cells < bytes → byte ≡ 0xFF → After cells ≡ firstFF screen start 0 bytes
+  sought-found read more h = sym (s .search-left ∙ search-ends screen start bytes cells read more h)
+
+pub sought-missing :
+    {screen : List ℕ} {start bytes cells : ℕ} → Sought screen start bytes cells → bytes ≤ cells
+    → Missing ≡ firstFF screen start 0 bytes
+sought-missing {screen} {start} {bytes} {cells} s all =
+    sym (s .search-left ∙ search-fails screen start bytes cells (omega (arith, s .within)))

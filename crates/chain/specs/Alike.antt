@@ -1,11 +1,11 @@
--- A row is what it reads: two chains that hold the same bytes wherever a row of the one reads have that row in common, and
+-- Rows are what they read: two chains that hold the same bytes wherever a row of the one reads have that row in common, and
 -- what it leads to.
-use Prim.Native.Nat.{ℕ}
+use Prim.Native.Nat.{ℕ, _<_}
 use mathlib.Core.Path.{_≡_}
 use mathlib.Core.List.{List, map}
-use Rattle.chain.specs.Chain.{Chain, Row, byteAt, rowFrom}
+use Rattle.chain.specs.Chain.{Chain, Row, byteAt, rowFrom, rowAt}
 use Rattle.chain.specs.Reading.{screenRead, attributeRead}
-use Rattle.chain.specs.Ahead.{aheadAfter}
+use Rattle.chain.specs.Ahead.{aheadAfter, aheadOf}
 use Rattle.chain.specs.declared.Head.{Head}
 
 -- the bytes of a memory at these places
@@ -22,3 +22,10 @@ abbrev pub RowIsWhatItReads : Type 0
 RowIsWhatItReads =
     (c d : Chain) (head : Head) → let row = rowFrom c head in
     ReadAlike c d row → (rowFrom d head ≡ row) × (aheadAfter d row ≡ aheadAfter c row)
+
+-- and so it is with the walk: with the same bytes wherever its first rows read, those rows are the same, and so is what lies
+-- ahead after them
+abbrev pub RowsAreWhatTheyRead : Type 0
+RowsAreWhatTheyRead =
+    (c d : Chain) (rows : ℕ) → ((row : ℕ) → row < rows → ReadAlike c d (rowAt c row))
+    → (aheadOf d rows ≡ aheadOf c rows) × ((row : ℕ) → row < rows → rowAt d row ≡ rowAt c row)

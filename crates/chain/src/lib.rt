@@ -4,7 +4,7 @@ ghost use Prim.Native.Nat.{_+_, _≤_, _<_};
 ghost use mathlib.Core.Path.{_≡_};
 ghost use lib.ListN.{length};
 ghost use Rattle.lent.specs.Lengths.{screenBytes, attributeBytes};
-ghost use Rattle.chain.specs.Chain.{places, byteAt, capacity, first, link};
+ghost use Rattle.chain.specs.Chain.{places, byteAt, capacity, first, firstFF, link};
 
 // There are always so many rows.
 pub const ROWS: usize = 24;
@@ -58,6 +58,22 @@ pub fn capacity(columns: usize, kind: u8) -> usize
     } else {
         columns
     }
+}
+
+// Finds the terminator among the first capacity + 1 bytes of a row, and draws nothing.
+pub fn find_terminator(screen: &[u8], start: usize, capacity: usize) -> Terminator
+    requires { ⌜ length (now screen) ≡ screenBytes ⌝ }
+    requires { ⌜ (start < places) × (capacity < places) ⌝ }
+    ensures { λ r. ⌜ r ≡ firstFF (now (screen .entry)) start 0 (capacity + 1) ⌝ }
+{
+    let mut cells = 0;
+    while cells <= capacity {
+        if byte_at(screen, start + cells) == TERMINATOR {
+            return Terminator::After(cells);
+        }
+        cells += 1;
+    }
+    Terminator::Missing
 }
 
 // The link of the row whose terminator stands at `place`.

@@ -17,7 +17,7 @@ pub enum Seen {
     Nowhere,
 }
 
-fn seen_8088(address: u32) -> Seen
+pub fn seen_8088(address: u32) -> Seen
     ensures { λ r. ⌜ r ≡ seen8088 address ⌝ }
 {
     let at = address as usize;
@@ -36,7 +36,7 @@ fn seen_8088(address: u32) -> Seen
     Seen::Nowhere
 }
 
-fn lengths_8088(shared: usize, screen: usize, attribute: usize) -> bool
+pub fn lengths_8088(shared: usize, screen: usize, attribute: usize) -> bool
     ensures { λ r. ⌜ r ≡ lengths8088 shared screen attribute ⌝ }
 {
     lent::three_lengths(

@@ -1,15 +1,15 @@
 -- A row whose terminator was searched for: which row it is, its record, what it read and what it leads to.
 use Prim.Native.Nat.{ℕ, _+_, _≤_}
-use mathlib.Core.Path.{_≡_, sym, _∙_, ap}
+use mathlib.Core.Path.{_≡_, sym, _∙_}
 use mathlib.Core.List.{List}
 use native.Mathlib.Omega.{arith}
-use Rattle.chain.specs.Chain.{Chain, capacity, firstFF, terminator, ended, rowFrom}
+use Rattle.chain.specs.Chain.{Chain, capacity, ended, rowFrom}
 use Rattle.chain.specs.Reading.{reads}
 use Rattle.chain.specs.declared.Head.{Head}
 use Rattle.chain.specs.declared.Terminator.{Terminator}
 use Rattle.chain.specs.declared.Terminator.the-variants.{After, Missing}
 use Rattle.chain.specs.declared.Ahead.the-variants.{Row, Dark}
-use Rattle.chain.proofs.Laws.{found-within}
+use Rattle.chain.proofs.Laws.{found-within, row-found}
 use Rattle.records.specs.Record.{recordPairs, tornCount, recordOf}
 use Rattle.records.specs.Walked.{Found, finished, wholeWalked, walked, drawnAhead}
 
@@ -28,24 +28,23 @@ module _
     {drawn : List ℕ}
     {t : Terminator}
     (f : Found (c .screen) (c .attribute) (head .start) cap drawn t) where
-  row-found : rowFrom c head ≡ ended head t
-  unfolding rowFrom terminator
-  row-found = ap (ended head) (ap (λ (n : ℕ). firstFF (c .screen) (head .start) 0 (n + 1)) (sym is) ∙ sym (f .answer))
+  row : rowFrom c head ≡ ended head t
+  row = row-found c head is (f .answer)
 
   module _ (torn : t ≡ Missing) where
     pub torn-walked : record { reads = cap + 1; next = Dark } ≡ walked c (Row head)
     unfolding reads
-    torn-walked = rw (row-found, torn, is)
+    torn-walked = rw (row, torn, is)
 
     pub torn-drawn : finished head tornCount cap drawn ≡ drawnAhead c (Row head)
     unfolding recordOf
-    torn-drawn = rw (row-found, torn, rw torn at (f .written), is)
+    torn-drawn = rw (row, torn, rw torn at (f .written), is)
 
   module _ {n : ℕ} (whole : t ≡ After n) where
     pub whole-walked : wholeWalked (c .screen) (c .attribute) head n ≡ walked c (Row head)
     unfolding reads
-    whole-walked = rw (row-found, whole)
+    whole-walked = rw (row, whole)
 
     pub whole-drawn : finished head n n drawn ≡ drawnAhead c (Row head)
     unfolding recordOf
-    whole-drawn = rw (row-found, whole, rw whole at (f .written))
+    whole-drawn = rw (row, whole, rw whole at (f .written))

@@ -1,0 +1,51 @@
+use Prim.Native.Nat.{_+_, _-_}
+use native.Mathlib.Omega.{arith}
+use borrow.Author.Needs.{needs}
+use Rattle.chain.proofs.Laws.{Sought, none-sought, sought-on, sought-found, sought-missing}
+use Rattle.chain.proofs.find_terminator.Statement.{statement}
+use Rattle.chain.proofs.find_terminator.Tie as tie
+
+abbrev Inv-loop : tie.InvT-loop
+Inv-loop screen start capacity cells₀ cells = Sought screen start (capacity + 1) cells
+
+abbrev μ-loop : tie.MeasureT-loop
+μ-loop screen start capacity cells₀ cells = capacity + 1 - cells
+
+loop-holds : tie.Need-loop-holds Inv-loop μ-loop
+loop-holds c = none-sought _ _ _
+
+add-byte-at : tie.Need-add-byte-at Inv-loop μ-loop
+add-byte-at c = search needs
+
+byte-at-requires : tie.Need-byte-at-requires Inv-loop μ-loop
+byte-at-requires c κs = search needs
+
+returns : tie.Need-returns Inv-loop μ-loop
+returns c = sought-found (c .before .before .before .loop .inv) (c .before .byte-at .ensures) (omega arith) (c .if1 .taken)
+
+add-cells : tie.Need-add-cells Inv-loop μ-loop
+add-cells c = search needs
+
+loop-less : tie.Need-loop-less Inv-loop μ-loop
+loop-less c = search needs
+
+loop-again : tie.Need-loop-again Inv-loop μ-loop
+loop-again c = sought-on (c .before .before .before .loop .inv) (c .before .byte-at .ensures) (omega arith) (c .if1 .left)
+
+returns-2 : tie.Need-returns-2 Inv-loop μ-loop
+returns-2 c = sought-missing (c .before .loop .inv) (omega arith)
+
+pub find-terminator-spec : {M : Type 1} → statement M
+find-terminator-spec =
+    tie.close
+    (tie.spec
+    Inv-loop
+    μ-loop
+    loop-holds
+    add-byte-at
+    byte-at-requires
+    returns
+    add-cells
+    loop-less
+    loop-again
+    returns-2)

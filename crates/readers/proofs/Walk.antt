@@ -1,0 +1,60 @@
+-- The walk that seeks the first reader: what holds when it comes to a row, how it begins, goes on and ends.
+use Prim.Native.Nat.{ℕ, suc, _+_, _-_, _≤_, _<_}
+use mathlib.Core.Path.{_≡_, refl, sym, ap, _∙_}
+use mathlib.Core.Bool.{true, false}
+use native.Mathlib.Numerals.{add-one}
+use native.Mathlib.Omega.{arith}
+use Rattle.memories.specs.declared.view8088.Seen.{Seen}
+use Rattle.chain.specs.Chain.{Chain, first, rows, rowAt}
+use Rattle.chain.specs.Ahead.{rowAhead, aheadOf}
+use Rattle.chain.specs.declared.Ahead.{Ahead}
+use Rattle.chain.specs.declared.Ahead.the-variants.{Row}
+use Rattle.chain.proofs.Laws.{ahead-leads}
+use Rattle.readers.specs.Readers.{rowReads, firstFrom, firstReader, onScreen}
+use Rattle.readers.specs.Passed.{passed, Found}
+use Rattle.readers.specs.declared.Passed.{Passed}
+use Rattle.readers.proofs.Readers.{none-off-screen}
+
+pub record Seeking (c : Chain) (seen : Seen) (ahead : Ahead) (row : ℕ) : Type 0 where
+  pub within : row ≤ rows
+  pub comes : row < rows → ahead ≡ aheadOf c row
+  pub search-left : firstReader c seen ≡ firstFrom c seen row (rows - row)
+
+pub seek-begins : (c : Chain) (seen : Seen) → Seeking c seen (Row first) 0
+unfolding aheadOf
+seek-begins c seen = record { within = omega arith; comes = λ h. refl; search-left = refl }
+
+pub none-found : (c : Chain) (seen : Seen) (ahead : Ahead) → onScreen seen ≡ false → Found c seen (record { row = rows; ahead = ahead })
+none-found c seen ahead off =
+    record { first = sym (none-off-screen c seen off 0 rows); comes = λ h. absurd (omega arith) }
+
+module _ {c : Chain} {seen : Seen} {ahead : Ahead} {row : ℕ} (s : Seeking c seen ahead row) where
+  module _ (more : row < rows) {one : Passed} (e : one ≡ passed c seen ahead) where
+    left : rows - row ≡ suc (rows - (row + 1))
+    left = omega arith
+
+    is-row : rowAhead c ahead ≡ rowAt c row
+    is-row = rw (s .comes more) (ahead-leads c row)
+
+    read : rowReads c seen (rowAt c row) ≡ one .reads
+    read = rw (e, is-row)
+
+    pub seek-ends : one .reads ≡ true → Found c seen (record { row = row; ahead = ahead })
+    unfolding firstFrom
+    seek-ends h =
+        record { first = sym (s .search-left ∙ rw (left, read, h)); comes = s .comes }
+
+    pub seek-goes-on : one .reads ≡ false → Seeking c seen (one .next) (row + 1)
+    unfolding firstFrom aheadOf
+    seek-goes-on h =
+        record {
+          within = omega arith;
+          comes = λ g. rw (add-one row, e, is-row);
+          search-left = s .search-left ∙ rw (left, read, h);
+        }
+
+  pub seek-fails : rows ≤ row → Found c seen (record { row = row; ahead = ahead })
+  unfolding firstFrom
+  seek-fails all =
+      let none : rows - row ≡ 0 = omega arith in
+      record { first = sym (s .search-left ∙ rw none); comes = s .comes }

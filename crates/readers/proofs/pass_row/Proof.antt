@@ -1,0 +1,79 @@
+use Rattle.readers.proofs.Laws.{whole-fits}
+use Rattle.chain.proofs.Laws.{row-found}
+use Rattle.chain.specs.Reading.{screenRead, attributeRead}
+use Rattle.chain.specs.Chain.{chain}
+use native.Mathlib.Omega.{arith}
+use borrow.Author.Needs.{needs}
+use Rattle.readers.proofs.pass_row.Statement.{statement}
+use Rattle.readers.proofs.pass_row.Tie as tie
+
+capacity-requires : tie.Need-capacity-requires
+capacity-requires c κs = search needs
+
+find-terminator-requires : tie.Need-find-terminator-requires
+find-terminator-requires c κs = search needs
+
+enum-known-cells : tie.Need-enum-known-cells
+enum-known-cells c = search needs
+
+enum-told : tie.Need-enum-told
+enum-told c = search needs
+
+torn-reads-requires : tie.Need-torn-reads-requires
+torn-reads-requires c κs = search needs
+
+returns : tie.Need-returns
+unfolding screenRead attributeRead
+returns c =
+    let e = c .before in
+    let f = e .before .before in
+    let a = f .before .before .before .before .args in
+    let k = chain (a .columns) (a .screen .now) (a .attribute .now) in
+    let is = f .before .capacity .ensures .0 in
+    rw (row-found k (a .head) is (f .find-terminator .ensures), e .enum-told .given .1, c .torn-reads .ensures, is)
+
+whole-reads-requires : tie.Need-whole-reads-requires
+whole-reads-requires c κs =
+    let f = c .before .before .before in
+    let p = f .before .before .before .before .pre in
+    let fits = whole-fits _ _ (f .find-terminator .ensures) (c .before .cells .given .1) (f .before .capacity .ensures .1) (p .1 .1 .0 .0) in
+    (p .1 .1 .1, (p .1 .1 .0 .1, fits))
+
+add-link : tie.Need-add-link
+add-link c =
+    let f = c .before .before .before .before in
+    let p = f .before .before .before .before .pre in
+    let fits = whole-fits _ _ (f .find-terminator .ensures) (c .before .before .cells .given .1) (f .before .capacity .ensures .1) (p .1 .1 .0 .0) in
+    omega (arith, fits)
+
+link-requires : tie.Need-link-requires
+link-requires c κs =
+    let f = c .before .before .before .before in
+    let p = f .before .before .before .before .pre in
+    let fits = whole-fits _ _ (f .find-terminator .ensures) (c .before .before .cells .given .1) (f .before .capacity .ensures .1) (p .1 .1 .0 .0) in
+    (p .0, (p .1 .0, omega (arith, fits, p .1 .1 .0 .1)))
+
+returns-2 : tie.Need-returns-2
+unfolding screenRead attributeRead
+returns-2 c =
+    let t = c .before .before in
+    let f = t .before .before .before in
+    let a = f .before .before .before .before .args in
+    let k = chain (a .columns) (a .screen .now) (a .attribute .now) in
+    let is = f .before .capacity .ensures .0 in
+    rw (row-found k (a .head) is (f .find-terminator .ensures), t .before .cells .given .1, c .before .whole-reads .ensures, c .link .ensures)
+
+pub pass-row-spec : {M : Type 1} → statement M
+pass-row-spec =
+    tie.close
+    (tie.spec
+    capacity-requires
+    find-terminator-requires
+    enum-known-cells
+    enum-told
+    torn-reads-requires
+    returns
+    whole-reads-requires
+    add-link
+    link-requires
+    returns-2)

@@ -1,0 +1,3 @@
+pub mod Readers
+pub mod Passed
+pub mod Stored

@@ -1,0 +1,32 @@
+-- What the functions of the walk that draws nothing promise.
+use Prim.Native.Nat.{ℕ, _+_, _-_, _%_, _<_}
+use mathlib.Core.Path.{_≡_}
+use Rattle.lent.specs.Lengths.{screenBytes, attributeBytes}
+use Rattle.memories.specs.declared.view8088.Seen.{Seen}
+use Rattle.memories.specs.declared.view8088.Seen.the-variants.{Shared, Screen, Attribute, Nowhere}
+use Rattle.chain.specs.Chain.{Chain, places, rows}
+use Rattle.chain.specs.Ahead.{rowAhead, aheadAfter, aheadOf}
+use Rattle.chain.specs.declared.Ahead.{Ahead}
+use Rattle.readers.specs.Readers.{rowReads, firstReader}
+use Rattle.readers.specs.declared.Passed.{Passed}
+use Rattle.readers.specs.declared.Reader.{Reader}
+
+-- how many bytes after a start a place comes
+abbrev pub offset : (place start : ℕ) → ℕ
+offset place start = (place + places - start) % places
+
+-- the place of screen or attribute memory lies in it
+abbrev pub InMemory : Seen → Type 0
+InMemory (Shared place) = Unit {0}
+InMemory (Screen place) = place < screenBytes
+InMemory (Attribute place) = place < attributeBytes
+InMemory Nowhere = Unit {0}
+
+-- whether the row that lies ahead reads the byte, and what it leads to
+abbrev pub passed : Chain → Seen → Ahead → Passed
+passed c seen ahead = record { reads = rowReads c seen (rowAhead c ahead); next = aheadAfter c (rowAhead c ahead) }
+
+-- the first reader, and what lies ahead where the walk comes to it
+pub record Found (c : Chain) (seen : Seen) (reader : Reader) : Type 0 where
+  pub first : reader .row ≡ firstReader c seen
+  pub comes : reader .row < rows → reader .ahead ≡ aheadOf c (reader .row)

@@ -1,0 +1,140 @@
+// The first row that reads a byte, found by a walk that draws nothing. Document 01, "The picture": "Let
+// f be the first row that reads the stored byte".
+ghost use Prim.Native.Nat.{_+_, _≤_, _<_};
+ghost use mathlib.Core.Path.{_≡_};
+ghost use mathlib.Core.List.{_++_};
+ghost use lib.ListN.{length};
+ghost use Rattle.lent.specs.Lengths.{screenBytes, attributeBytes};
+ghost use Rattle.chain.specs.Chain.{chain, places};
+ghost use Rattle.chain.specs.Reading.{from};
+ghost use Rattle.chain.specs.Ahead.{Placed};
+ghost use Rattle.readers.specs.Readers.{readsByte, onScreen};
+ghost use Rattle.readers.specs.Passed.{offset, InMemory, passed, Found};
+use chain::Ahead;
+use chain::Head;
+use chain::Terminator;
+use memories::Seen;
+
+// The number of a row, and what lies ahead of the walk there: ROWS where no row reads the byte.
+pub struct Reader {
+    pub row: usize,
+    pub ahead: Ahead,
+}
+
+// A row that was passed: whether it reads the byte, and what the chain leads to.
+struct Passed {
+    reads: bool,
+    next: Ahead,
+}
+
+// How many bytes after a row's start a place comes.
+fn offset(place: usize, start: usize) -> usize
+    requires { ⌜ (place < places) × (start < places) ⌝ }
+    ensures { λ r. ⌜ r ≡ offset place start ⌝ }
+{
+    (place + lent::SCREEN_BYTES - start) % lent::SCREEN_BYTES
+}
+
+// A whole row reads its cells, FF and the link, and beside the cells and the low byte of the link.
+fn whole_reads(seen: Seen, start: usize, cells: usize) -> bool
+    requires { ⌜ InMemory seen × ((start < places) × (cells + 3 ≤ places)) ⌝ }
+    ensures { λ r. ⌜ r ≡ readsByte seen (from start (cells + 3)) (from start cells ++ from (start + cells + 1) 1) ⌝ }
+{
+    match seen {
+        Seen::Screen(place) => offset(place, start) < cells + 3,
+        Seen::Attribute(place) => {
+            let after = offset(place, start);
+            after < cells || after == cells + 1
+        }
+        Seen::Shared(_) => false,
+        Seen::Nowhere => false,
+    }
+}
+
+// A torn row reads a byte more than its cells, and beside the cells.
+fn torn_reads(seen: Seen, start: usize, capacity: usize) -> bool
+    requires { ⌜ InMemory seen × ((start < places) × (capacity + 1 ≤ places)) ⌝ }
+    ensures { λ r. ⌜ r ≡ readsByte seen (from start (capacity + 1)) (from start capacity) ⌝ }
+{
+    match seen {
+        Seen::Screen(place) => offset(place, start) < capacity + 1,
+        Seen::Attribute(place) => offset(place, start) < capacity,
+        Seen::Shared(_) => false,
+        Seen::Nowhere => false,
+    }
+}
+
+fn pass_row(columns: usize, screen: &[u8], attribute: &[u8], head: Head, seen: Seen) -> Passed
+    requires { ⌜ length (now screen) ≡ screenBytes ⌝ }
+    requires { ⌜ length (now attribute) ≡ attributeBytes ⌝ }
+    requires { ⌜ (columns + 3 ≤ places) × (head .start < places) ⌝ }
+    requires { ⌜ InMemory seen ⌝ }
+    ensures { λ r. ⌜ r ≡ passed (chain columns (now (screen .entry)) (now (attribute .entry))) seen (Ahead.Row head) ⌝ }
+{
+    let start = head.start;
+    let capacity = chain::capacity(columns, head.kind);
+    let Terminator::After(cells) = chain::find_terminator(screen, start, capacity) else {
+        return Passed {
+            reads: torn_reads(seen, start, capacity),
+            next: Ahead::Dark,
+        };
+    };
+    Passed {
+        reads: whole_reads(seen, start, cells),
+        next: Ahead::Row(chain::link(screen, attribute, start + cells)),
+    }
+}
+
+fn pass(columns: usize, screen: &[u8], attribute: &[u8], ahead: Ahead, seen: Seen) -> Passed
+    requires { ⌜ length (now screen) ≡ screenBytes ⌝ }
+    requires { ⌜ length (now attribute) ≡ attributeBytes ⌝ }
+    requires { ⌜ (columns + 3 ≤ places) × Placed ahead ⌝ }
+    requires { ⌜ InMemory seen ⌝ }
+    ensures { λ r. ⌜ r ≡ passed (chain columns (now (screen .entry)) (now (attribute .entry))) seen ahead ⌝ }
+{
+    match ahead {
+        Ahead::Row(head) => pass_row(columns, screen, attribute, head, seen),
+        Ahead::Dark => Passed {
+            reads: false,
+            next: ahead,
+        },
+    }
+}
+
+fn on_screen(seen: Seen) -> bool
+    ensures { λ r. ⌜ r ≡ onScreen seen ⌝ }
+{
+    match seen {
+        Seen::Screen(_) => true,
+        Seen::Attribute(_) => true,
+        Seen::Shared(_) => false,
+        Seen::Nowhere => false,
+    }
+}
+
+pub fn first_reader(columns: usize, screen: &[u8], attribute: &[u8], seen: Seen) -> Reader
+    requires { ⌜ length (now screen) ≡ screenBytes ⌝ }
+    requires { ⌜ length (now attribute) ≡ attributeBytes ⌝ }
+    requires { ⌜ columns + 3 ≤ places ⌝ }
+    requires { ⌜ InMemory seen ⌝ }
+    ensures { λ r. ⌜ Found (chain columns (now (screen .entry)) (now (attribute .entry))) seen r ⌝ }
+{
+    // No walk for a byte that no row can read.
+    if !on_screen(seen) {
+        return Reader {
+            row: chain::ROWS,
+            ahead: Ahead::Dark,
+        };
+    }
+    let mut ahead = Ahead::Row(Head::first());
+    let mut row = 0;
+    while row < chain::ROWS {
+        let passed = pass(columns, screen, attribute, ahead, seen);
+        if passed.reads {
+            return Reader { row, ahead };
+        }
+        ahead = passed.next;
+        row += 1;
+    }
+    Reader { row, ahead }
+}
