@@ -7,7 +7,7 @@ use Rattle.ports.specs.Ports.{lengthsNvm}
 use Rattle.chain.specs.Chain.{byteAt, capacity, firstFF, terminator, link, rowFrom, next, rowAt}
 use Rattle.chain.specs.Reading.{reads, readsTo}
 use Rattle.records.specs.Record.{cellPairs, fillPairs, recordOf}
-use Rattle.picture.specs.Picture.{pictureTo}
+use Rattle.picture.specs.Picture.{inOrder}
 use Rattle.picture.specs.Draw.{lengthsPicture}
 use Rattle.cases.specs.Said.{Said, Case, differ}
 use Rattle.cases.specs.Screens.{alikeFrom, alike, drawnFrom, rowsOf, drawnAll, memory, byteOfRow, startOfRow, countOfRow}
@@ -22,7 +22,7 @@ abbrev says : List Case → List (List Said)
 says = map (λ (c : Case). c .says)
 
 drawn : gives screens ≡ says screens
-unfolding byteAt capacity firstFF terminator link rowFrom next rowAt reads readsTo cellPairs fillPairs recordOf pictureTo lengthsPicture alikeFrom alike drawnFrom rowsOf drawnAll memory byteOfRow startOfRow countOfRow screens
+unfolding byteAt capacity firstFF terminator link rowFrom next rowAt reads readsTo cellPairs fillPairs recordOf inOrder lengthsPicture alikeFrom alike drawnFrom rowsOf drawnAll memory byteOfRow startOfRow countOfRow screens
 drawn = refl
 
 stored : gives stores ≡ says stores

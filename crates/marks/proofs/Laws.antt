@@ -1,7 +1,8 @@
--- Laws about marks: the number of so many rows is under that power of two.
+-- Laws about marks: the number of so many rows is under that power of two, and 0 where none is marked.
 use Prim.Native.Nat.{ℕ, zero, suc, _+_, _^_, _<_}
+use mathlib.Core.Path.{_≡_, refl}
 use mathlib.Core.Bool.{Bool, true, false}
-use native.Mathlib.Nat.{two-pow-succ}
+use native.Mathlib.Nat.{two-pow-succ, zero-mul}
 use native.Mathlib.Numerals.{add-one}
 use native.Mathlib.Omega.{arith}
 use Rattle.marks.specs.Marks.{marked, marksTo}
@@ -14,3 +15,8 @@ pub marks-under : (test : ℕ → Bool) (rows : ℕ) → marksTo test rows < 2 ^
 unfolding marksTo
 marks-under test zero = omega arith
 marks-under test (suc row) = rw add-one at (marked-under (marksTo test row) row (test row) (marks-under test row))
+
+pub none-marked : (test : ℕ → Bool) (rows : ℕ) → ((row : ℕ) → row < rows → test row ≡ false) → marksTo test rows ≡ 0
+unfolding marksTo
+none-marked test zero none = refl
+none-marked test (suc row) none = rw (none row (omega arith), none-marked test row (λ r h. none r (omega arith)), zero-mul)

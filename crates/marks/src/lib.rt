@@ -2,17 +2,19 @@
 // "The picture".
 ghost use Prim.Native.Nat.{_^_, _<_};
 ghost use mathlib.Core.Path.{_≡_};
-ghost use mathlib.Core.Bool.{true};
 ghost use Rattle.marks.specs.Marks.{bitSet, marked};
 
 const BITS: usize = 32;
 
-// Row `row` marked besides those under it.
-pub fn mark(marks: u32, row: usize) -> u32
+// The marks of the rows before, and of this one if it changed.
+pub fn mark(marks: u32, row: usize, changed: bool) -> u32
     requires { ⌜ (marks < 2 ^ row) × (row < 32) ⌝ }
-    ensures { λ r. ⌜ r ≡ marked marks row true ⌝ }
+    ensures { λ r. ⌜ r ≡ marked marks row changed ⌝ }
 {
-    marks | 1 << row
+    if changed {
+        return marks | 1 << row;
+    }
+    marks
 }
 
 // Whether a row is marked. No row is where there is no bit.

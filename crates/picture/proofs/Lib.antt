@@ -1,4 +1,5 @@
 pub mod Laws
+pub mod Records
 pub mod Walk
 pub mod Counted
 pub mod Sizes

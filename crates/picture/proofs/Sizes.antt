@@ -9,7 +9,8 @@ use Rattle.chain.specs.Reading.{reads}
 use Rattle.records.specs.Record.{recordBytes, recordPairs, cellPairs, fillPairs, cellsShown, recordOf}
 use Rattle.chain.proofs.Laws.{capacity-within}
 use Rattle.chain.proofs.Reading.{reads-at}
-use Rattle.picture.specs.Picture.{pictureTo}
+use Rattle.picture.specs.Picture.{recordAt}
+use Rattle.picture.proofs.Records.{records-length}
 use Rattle.picture.specs.Sizes.{RecordsSized, PictureSized}
 
 cells-length : (screen attribute : List ℕ) (start cells : ℕ) → length (cellPairs screen attribute start cells) ≡ 2 * cells
@@ -36,10 +37,5 @@ records-sized c row wide =
     let fits = shown-fit c (rowAt c row) (reads-at c row) in
     simp (length-append, cells-length, fill-length) (omega arith)
 
-rows-sized : (c : Chain) (n : ℕ) → c .columns ≤ recordPairs → length (pictureTo c n) ≡ n * recordBytes
-unfolding pictureTo
-rows-sized c zero wide = refl
-rows-sized c (suc n) wide = rw (length-append, rows-sized c n wide, records-sized c n wide) (omega arith)
-
 pub picture-sized : PictureSized
-picture-sized c = rows-sized c rows
+picture-sized c wide = records-length (recordAt c) rows (λ row h. records-sized c row wide)

@@ -26,7 +26,11 @@ InMemory Nowhere = Unit {0}
 abbrev pub passed : Chain → Seen → Ahead → Passed
 passed c seen ahead = record { reads = rowReads c seen (rowAhead c ahead); next = aheadAfter c (rowAhead c ahead) }
 
--- the first reader, and what lies ahead where the walk comes to it
+-- what lies ahead where the walk comes to the row, if there is such a row
+abbrev pub Comes : Chain → Reader → Type 0
+Comes c reader = reader .row < rows → reader .ahead ≡ aheadOf c (reader .row)
+
+-- the first reader, and what lies ahead there
 pub record Found (c : Chain) (seen : Seen) (reader : Reader) : Type 0 where
   pub first : reader .row ≡ firstReader c seen
-  pub comes : reader .row < rows → reader .ahead ≡ aheadOf c (reader .row)
+  pub comes : Comes c reader

@@ -3,7 +3,9 @@ use mathlib.Core.Path.{_∙_}
 use native.Mathlib.Omega.{arith}
 use borrow.Author.Needs.{needs}
 use Rattle.chain.specs.Chain.{chain, rows}
-use Rattle.picture.proofs.Walk.{Walking, walk-begins, part-lent, sum-fits, walk-goes-on, walk-ends}
+use Rattle.chain.proofs.Laws.{ahead-placed}
+use Rattle.picture.proofs.Records.{record-lent}
+use Rattle.picture.proofs.Walk.{Walking, walk-begins, sum-fits, walk-goes-on, walk-ends}
 use Rattle.picture.proofs.draw_rows.Statement.{statement}
 use Rattle.picture.proofs.draw_rows.Tie as tie
 
@@ -39,7 +41,7 @@ draw-ahead-requires : tie.Need-draw-ahead-requires Inv-loop μ-loop
 draw-ahead-requires c κs =
     let l = c .before .before in
     let p = l .before .before .before .before .before .pre in
-    (p .0, (p .1 .0, ((p .1 .1 .1, l .loop .inv .placed), part-lent (l .loop .inv) (c .before .loop-test .taken))))
+    (p .0, (p .1 .0, ((p .1 .1 .1, rw (l .loop .inv .comes) (ahead-placed _ _)), record-lent _ _ (l .loop .inv .same) (c .before .loop-test .taken))))
 
 add-reads : tie.Need-add-reads Inv-loop μ-loop
 add-reads c =
@@ -60,7 +62,7 @@ loop-again c =
     let w = d .before .before .before .loop .inv in
     let more = d .before .before .loop-test .taken in
     walk-goes-on w more (d .draw-ahead .ensures .0) (d .draw-ahead .ensures .1)
-    (d .draw-ahead .kept .1 .1 .1 .1 .0 ∙ part-lent w more)
+    (d .draw-ahead .kept .1 .1 .1 .1 .0 ∙ record-lent _ _ (w .same) more)
 
 same-length : tie.Need-same-length Inv-loop μ-loop
 same-length c = search needs

@@ -1,0 +1,4 @@
+pub mod Same
+pub mod Bytes
+pub mod Laws
+pub mod Walk

@@ -1,0 +1,92 @@
+use Rattle.marks.proofs.Laws.{marks-under}
+use Rattle.picture.proofs.Records.{record-lent}
+use Rattle.chain.proofs.Laws.{ahead-placed}
+use native.Mathlib.Omega.{arith}
+use mathlib.Core.Path.{_∙_}
+use Rattle.mending.proofs.Walk.{Mending, mend-begins, mend-goes-on, mend-ends}
+use Rattle.chain.specs.Chain.{chain, rows}
+use Prim.Native.Nat.{_-_}
+use borrow.Author.Needs.{needs}
+use Rattle.mending.proofs.mend.Statement.{statement}
+use Rattle.mending.proofs.mend.Tie as tie
+
+abbrev Inv-loop : tie.InvT-loop
+Inv-loop columns screen attribute picture₀ ahead₀ row₀ marks₀ picture ahead row marks = Mending (chain columns screen attribute) row₀ picture₀ picture ahead marks row
+
+abbrev μ-loop : tie.MeasureT-loop
+μ-loop columns screen attribute picture₀ ahead₀ row₀ marks₀ picture ahead row marks = rows - row
+
+loop-holds : tie.Need-loop-holds Inv-loop μ-loop
+loop-holds c =
+    let s = c .before .before .before in
+    let p = s .pre in
+    mend-begins _ _ _ (p .1 .1 .1 .0 .0) (p .1 .1 .0) (s .args .first .ahead) (p .1 .1 .1 .0 .1) (p .1 .1 .1 .1)
+
+mul-at : tie.Need-mul-at Inv-loop μ-loop
+mul-at c = search needs
+
+add-end : tie.Need-add-end Inv-loop μ-loop
+add-end c = search needs
+
+sub-mend-row : tie.Need-sub-mend-row Inv-loop μ-loop
+sub-mend-row c = search needs
+
+part-mend-row-start : tie.Need-part-mend-row-start Inv-loop μ-loop
+part-mend-row-start c = search needs
+
+part-mend-row-end : tie.Need-part-mend-row-end Inv-loop μ-loop
+part-mend-row-end c = search needs
+
+mend-row-requires : tie.Need-mend-row-requires Inv-loop μ-loop
+mend-row-requires c κs =
+    let i = c .before in
+    let l = i .before in
+    let p = l .before .before .before .before .pre in
+    (p .0, (p .1 .0, ((p .1 .1 .1 .0 .0, rw (l .loop .inv .comes (i .loop-test .taken)) (ahead-placed _ _)), record-lent _ _ (l .loop .inv .same) (i .loop-test .taken))))
+
+mark-requires : tie.Need-mark-requires Inv-loop μ-loop
+mark-requires c κs =
+    let i = c .before .before .before .before in
+    let m = i .before .loop .inv in
+    (rw (m .told) (marks-under _ _), omega arith)
+
+add-row : tie.Need-add-row Inv-loop μ-loop
+add-row c = search needs
+
+loop-less : tie.Need-loop-less Inv-loop μ-loop
+loop-less c = search needs
+
+loop-again : tie.Need-loop-again Inv-loop μ-loop
+loop-again c =
+    let r = c .before .before .before in
+    let i = r .before .before in
+    let l = i .before in
+    let p = l .before .before .before .before .pre in
+    mend-goes-on _ _ _ (p .1 .1 .1 .0 .0) (p .1 .1 .0) (l .loop .inv) (i .loop-test .taken) (r .mend-row .ensures .0) (r .mend-row .ensures .1)
+    (r .mend-row .kept .1 .1 .1 .1 .0 ∙ record-lent _ _ (l .loop .inv .same) (i .loop-test .taken)) (c .mark .ensures)
+
+same-length : tie.Need-same-length Inv-loop μ-loop
+same-length c = search needs
+
+returns : tie.Need-returns Inv-loop μ-loop
+returns c = mend-ends (c .before .loop .inv) (c .loop-test .left)
+
+pub mend-spec : {M : Type 1} → statement M
+mend-spec =
+    tie.close
+    (tie.spec
+    Inv-loop
+    μ-loop
+    loop-holds
+    mul-at
+    add-end
+    sub-mend-row
+    part-mend-row-start
+    part-mend-row-end
+    mend-row-requires
+    mark-requires
+    add-row
+    loop-less
+    loop-again
+    same-length
+    returns)

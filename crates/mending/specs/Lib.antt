@@ -1,0 +1,3 @@
+pub mod Mending
+pub mod Store
+pub mod Rows

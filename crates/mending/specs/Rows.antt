@@ -1,0 +1,15 @@
+-- What the function that mends one row promises.
+use Prim.Native.Nat.{ℕ}
+use mathlib.Core.List.{List}
+use mathlib.Core.Bool.{not}
+use Rattle.chain.specs.Chain.{Chain}
+use Rattle.chain.specs.Ahead.{rowAhead, aheadAfter}
+use Rattle.chain.specs.declared.Ahead.{Ahead}
+use Rattle.records.specs.Walked.{drawnAhead}
+use Rattle.mending.specs.Mending.{sameBytes}
+use Rattle.mending.specs.declared.RowMended.{RowMended}
+
+-- whether the record of the row that lies ahead differs from the one that was kept, and what the row leads to
+abbrev pub rowMended : Chain → Ahead → (kept : List ℕ) → RowMended
+rowMended c ahead kept =
+    record { changed = not (sameBytes kept (drawnAhead c ahead)); next = aheadAfter c (rowAhead c ahead) }

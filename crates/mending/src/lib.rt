@@ -1,0 +1,131 @@
+// The store of a byte by the 8088 with a picture lent, which keeps the picture. Document 01, "The
+// picture".
+ghost use Prim.Native.Nat.{_≤_};
+ghost use mathlib.Core.Path.{_≡_};
+ghost use mathlib.Core.Bool.{not};
+ghost use lib.ListN.{length};
+ghost use Rattle.lent.specs.Lengths.{screenBytes, attributeBytes, pictureBytes};
+ghost use Rattle.chain.specs.Chain.{chain, rows};
+ghost use Rattle.chain.specs.Ahead.{Placed};
+ghost use Rattle.records.specs.Record.{recordBytes, recordPairs};
+ghost use Rattle.records.specs.Walked.{drawnAhead};
+ghost use Rattle.readers.specs.Passed.{Comes};
+ghost use Rattle.mending.specs.Mending.{mended, sameBytes, marksOf};
+ghost use Rattle.mending.specs.Store.{lengthsWithPicture, storedWithPicture, storeWithPicture};
+ghost use Rattle.mending.specs.Rows.{rowMended};
+use chain::Ahead;
+use machine::Machine;
+use readers::Reader;
+
+// The answer of the store: bit r of the marks is set when record r changed.
+pub struct Stored {
+    pub refusal: u8,
+    pub marks: u32,
+}
+
+// A row whose record was drawn again: whether that changed it, and what the chain leads to.
+struct RowMended {
+    changed: bool,
+    next: Ahead,
+}
+
+// Puts what was drawn in the place of what was kept, and says whether they differed.
+fn replace(kept: &mut [u8], drawn: &[u8]) -> bool
+    requires { ⌜ length (now kept) ≡ recordBytes ⌝ }
+    requires { ⌜ length (now drawn) ≡ recordBytes ⌝ }
+    ensures { λ r. ⌜ r ≡ not (sameBytes (now (kept .entry)) (now (drawn .entry))) ⌝ }
+    ensures { λ _. ⌜ now (kept .exit) ≡ now (drawn .entry) ⌝ }
+{
+    let mut changed = false;
+    let mut at = 0;
+    while at < records::RECORD_BYTES {
+        let byte = drawn[at];
+        changed = changed | (kept[at] != byte);
+        kept[at] = byte;
+        at += 1;
+    }
+    changed
+}
+
+fn mend_row(
+    columns: usize,
+    screen: &[u8],
+    attribute: &[u8],
+    ahead: Ahead,
+    kept: &mut [u8],
+) -> RowMended
+    requires { ⌜ length (now screen) ≡ screenBytes ⌝ }
+    requires { ⌜ length (now attribute) ≡ attributeBytes ⌝ }
+    requires { ⌜ (columns ≤ recordPairs) × Placed ahead ⌝ }
+    requires { ⌜ length (now kept) ≡ recordBytes ⌝ }
+    ensures { λ r. ⌜ r
+        ≡ rowMended (chain columns (now (screen .entry)) (now (attribute .entry))) ahead (now (kept .entry)) ⌝ }
+    ensures { λ _. ⌜ now (kept .exit)
+        ≡ drawnAhead (chain columns (now (screen .entry)) (now (attribute .entry))) ahead ⌝ }
+{
+    let mut drawn = [0u8; records::RECORD_BYTES];
+    let walked = records::draw_ahead(columns, screen, attribute, ahead, &mut drawn);
+    let next = walked.next;
+    let changed = replace(kept, &drawn);
+    RowMended { changed, next }
+}
+
+// Mends the picture from a row on, and marks the rows whose record changed.
+fn mend(columns: usize, screen: &[u8], attribute: &[u8], first: Reader, picture: &mut [u8]) -> u32
+    requires { ⌜ length (now screen) ≡ screenBytes ⌝ }
+    requires { ⌜ length (now attribute) ≡ attributeBytes ⌝ }
+    requires { ⌜ length (now picture) ≡ pictureBytes ⌝ }
+    requires { ⌜ (columns ≤ recordPairs) × (first .row ≤ rows) ⌝ }
+    requires { ⌜ Comes (chain columns (now screen) (now attribute)) first ⌝ }
+    ensures { λ r. ⌜ r
+        ≡ marksOf (now (picture .entry)) (mended (chain columns (now (screen .entry)) (now (attribute .entry))) (first .row) (now (picture .entry))) ⌝ }
+    ensures { λ _. ⌜ now (picture .exit)
+        ≡ mended (chain columns (now (screen .entry)) (now (attribute .entry))) (first .row) (now (picture .entry)) ⌝ }
+{
+    let mut ahead = first.ahead;
+    let mut row = first.row;
+    let mut marks = 0;
+    while row < chain::ROWS {
+        let at = row * records::RECORD_BYTES;
+        let end = at + records::RECORD_BYTES;
+        let mended = mend_row(columns, screen, attribute, ahead, &mut picture[at..end]);
+        marks = marks::mark(marks, row, mended.changed);
+        ahead = mended.next;
+        row += 1;
+    }
+    marks
+}
+
+fn lengths_with_picture(shared: usize, screen: usize, attribute: usize, picture: usize) -> bool
+    ensures { λ r. ⌜ r ≡ lengthsWithPicture shared screen attribute picture ⌝ }
+{
+    memories::lengths_8088(shared, screen, attribute) && picture == lent::PICTURE_BYTES
+}
+
+pub fn store_with_picture(
+    machine: Machine,
+    shared: &mut [u8],
+    screen: &mut [u8],
+    attribute: &mut [u8],
+    picture: &mut [u8],
+    address: u32,
+    byte: u8,
+) -> Stored
+    ensures { λ r. ⌜ storedWithPicture r (now (shared .exit)) (now (screen .exit)) (now (attribute .exit)) (now (picture .exit))
+        ≡ storeWithPicture machine (now (shared .entry)) (now (screen .entry)) (now (attribute .entry)) (now (picture .entry)) address byte ⌝ }
+{
+    if !lengths_with_picture(shared.len(), screen.len(), attribute.len(), picture.len()) {
+        return Stored {
+            refusal: lent::LENGTH,
+            marks: 0,
+        };
+    }
+    let columns = machine.columns();
+    let seen = memories::seen_8088(address);
+    // The walk of memory before the store. Where no row reads the byte, and where the address names
+    // none, nothing is mended.
+    let first = readers::first_reader(columns, screen, attribute, seen);
+    let refusal = memories::store_8088(shared, screen, attribute, address, byte);
+    let marks = mend(columns, screen, attribute, first, picture);
+    Stored { refusal, marks }
+}
