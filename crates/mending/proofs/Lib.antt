@@ -2,3 +2,4 @@ pub mod Same
 pub mod Bytes
 pub mod Laws
 pub mod Walk
+pub mod Outcome

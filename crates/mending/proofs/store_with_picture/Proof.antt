@@ -1,0 +1,101 @@
+use Rattle.readers.proofs.Readers.{is-first}
+use Rattle.picture.proofs.Laws.{columns-fit}
+use Rattle.records.specs.Record.{recordPairs}
+use Rattle.chain.specs.Chain.{places, rows}
+use Rattle.memories.proofs.Laws.{lent8088}
+use borrow.Author.Tests.{eqb-true}
+use native.Mathlib.Omega.{arith}
+use mathlib.Core.Path.{_∙_}
+use Prim.Native.Nat.{_+_, _≤_}
+use Rattle.mending.proofs.Outcome.{lent-with-picture, in-memory, comes-stored, refused-outcome, outcome}
+use Rattle.lent.proofs.Tests.{held, failed}
+use borrow.Author.Needs.{needs}
+use Rattle.mending.proofs.store_with_picture.Statement.{statement}
+use Rattle.mending.proofs.store_with_picture.Tie as tie
+
+lengths-with-picture-requires : tie.Need-lengths-with-picture-requires
+lengths-with-picture-requires c κs = search needs
+
+returns : tie.Need-returns
+returns c =
+    let a = c .before .before .before .before .before .before .args in
+    let wrong = failed (c .before .lengths-with-picture .ensures) (c .if1 .taken) in
+    refused-outcome (a .machine) _ _ _ _ (a .address) (a .byte) wrong
+
+columns-requires : tie.Need-columns-requires
+columns-requires c κs = search needs
+
+seen-8088-requires : tie.Need-seen-8088-requires
+seen-8088-requires c κs = search needs
+
+first-reader-requires : tie.Need-first-reader-requires
+first-reader-requires c κs =
+    let s = c .before .before in
+    let k = s .before in
+    let e = k .before in
+    let a = e .before .before .before .before .before .before .args in
+    let lent = lent-with-picture _ _ _ _ (held (e .before .lengths-with-picture .ensures) (e .if1 .left)) in
+    let memories = lent8088 (lent .0) in
+    let fits : k .columns .result + 3 ≤ places = rw (k .columns .ensures) (omega (arith, columns-fit (a .machine))) in
+    (memories .1 .0, (memories .1 .1, (fits, in-memory (a .address) (s .seen-8088 .ensures))))
+
+store-8088-requires : tie.Need-store-8088-requires
+store-8088-requires c κs = search needs
+
+mend-requires : tie.Need-mend-requires
+mend-requires c κs =
+    let r = c .before .before .before .before .before .before .before .before .before in
+    let f = r .before .before .before .before in
+    let s = f .before .before .before in
+    let k = s .before in
+    let e = k .before in
+    let a = e .before .before .before .before .before .before .args in
+    let lent = lent-with-picture _ _ _ _ (held (e .before .lengths-with-picture .ensures) (e .if1 .left)) in
+    let memories = lent8088 (lent .0) in
+    let wide : k .columns .result ≤ recordPairs = rw (k .columns .ensures) (columns-fit (a .machine)) in
+    let found = f .first-reader .ensures in
+    let within : f .first-reader .result .row ≤ rows = rw (found .first) (is-first _ _ .0) in
+    let comes = comes-stored (k .columns .result) (a .shared .now) _ _ (a .address) (a .byte) (lent .0) (r .store-8088 .ensures) (s .seen-8088 .ensures) found in
+    (r .store-8088 .kept .1 .0 ∙ memories .1 .0, (r .store-8088 .kept .1 .1 .0 ∙ memories .1 .1, (eqb-true _ _ (lent .1), ((wide, within), comes))))
+
+same-length : tie.Need-same-length
+same-length c = search needs
+
+same-length-2 : tie.Need-same-length-2
+same-length-2 c = search needs
+
+same-length-3 : tie.Need-same-length-3
+same-length-3 c = search needs
+
+same-length-4 : tie.Need-same-length-4
+same-length-4 c = search needs
+
+returns-2 : tie.Need-returns-2
+returns-2 c =
+    let m = c .before .before in
+    let r = m .before .before .before .before .before .before .before .before .before .before in
+    let f = r .before .before .before .before in
+    let s = f .before .before .before in
+    let k = s .before in
+    let e = k .before in
+    let a = e .before .before .before .before .before .before .args in
+    let right = held (e .before .lengths-with-picture .ensures) (e .if1 .left) in
+    outcome (a .machine) (a .shared .now) _ _ _ (a .address) (a .byte) right (k .columns .ensures) (s .seen-8088 .ensures)
+    (f .first-reader .ensures .first) (r .store-8088 .ensures) (m .mend .ensures)
+
+pub store-with-picture-spec : {M : Type 1} → statement M
+store-with-picture-spec =
+    tie.close
+    (tie.spec
+    lengths-with-picture-requires
+    returns
+    columns-requires
+    seen-8088-requires
+    first-reader-requires
+    store-8088-requires
+    mend-requires
+    same-length
+    same-length-2
+    same-length-3
+    same-length-4
+    returns-2)
