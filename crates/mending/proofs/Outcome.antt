@@ -102,6 +102,7 @@ module _ (m : Machine) (shared screen attribute picture : List ℕ) (address byt
       go false true h k e = rw (h, k)
       go false false h k e = rw (h, k)
 
+  -- with the right lengths the outcome is what the three steps leave, at an address that names none too
   seen-outcome :
       (seen : Seen) → seen8088 address ≡ seen → RightLengths true
       → let left = store8088 shared screen attribute address byte in
@@ -125,6 +126,15 @@ module _ (m : Machine) (shared screen attribute picture : List ℕ) (address byt
       let stays = none-mended c picture (eqb-true (length picture) pictureBytes (lent .1)) in
       rw (lent .0, lent .1, s, none, stays, unchanged picture)
 
+  pub right-outcome :
+      RightLengths true
+      → let left = store8088 shared screen attribute address byte in
+      let f = firstReader (chainOf m screen attribute) (seen8088 address) in
+      let new = mended (chainOf m (left .screen) (left .attribute)) f picture in
+      storeWithPicture m shared screen attribute picture address byte
+      ≡ storedWithPicture (record { refusal = left .refusal; marks = marksOf picture new }) (left .shared) (left .screen) (left .attribute) new
+  right-outcome right = sym (seen-outcome (seen8088 address) refl right)
+
   pub outcome :
       {n refusal f marks : ℕ} {seen : Seen} {shared′ screen′ attribute′ picture′ : List ℕ} → RightLengths true
       → n ≡ columns m → seen ≡ seen8088 address → f ≡ firstReader (chain n screen attribute) seen
@@ -145,4 +155,4 @@ module _ (m : Machine) (shared screen attribute picture : List ℕ) (address byt
         ap (λ (s : Stored8088). s .screen) stored,
         ap (λ (s : Stored8088). s .attribute) stored,
       )
-      (seen-outcome (seen8088 address) refl right)
+      (sym (right-outcome right))

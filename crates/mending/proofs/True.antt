@@ -1,0 +1,194 @@
+-- What a store does to a true picture: the statements of specs/True.antt.
+use Prim.Native.Nat.{ℕ, zero, suc, _+_, _%_, _≤_, _<_}
+use mathlib.Core.Path.{_≡_, refl, sym, ap, _∙_}
+use mathlib.Core.List.{List, [], _∷_}
+use mathlib.Core.Bool.{Bool, true, false, cond}
+use native.Mathlib.Omega.{arith}
+use lib.ListN.{length, getD, set, length-set}
+use lib.Seq.{set-getD, getD-set-same, getD-set-other}
+use lib.Dec.{eqb, ltb}
+use borrow.Author.Tests.{ltb-true, eqb-true, eqb-false}
+use Rattle.lent.specs.Answer.{byteRead}
+use Rattle.lent.specs.declared.ByteRead.{ByteRead}
+use Rattle.lent.specs.Lengths.{pictureBytes}
+use Rattle.machine.specs.declared.Machine.{Machine}
+use Rattle.memories.specs.View8088.{seen8088, byteSeen, storeSeen, store8088}
+use Rattle.memories.specs.declared.view8088.Seen.{Seen}
+use Rattle.memories.specs.declared.view8088.Seen.the-variants.{Shared, Screen, Attribute, Nowhere}
+use Rattle.chain.specs.Chain.{Chain, chain, Row, Whole, Torn, Dark, places, byteAt, capacity, terminator, link, rowFrom, next, rows, rowAt}
+use Rattle.chain.specs.Alike.{ReadAlike}
+use Rattle.chain.proofs.Alike.{rows-are-what-they-read}
+use Rattle.records.specs.Record.{recordPairs, cellPairs, recordOf}
+use Rattle.records.proofs.Alike.{record-is-what-it-reads}
+use Rattle.picture.specs.Picture.{recordAt, pictureOf, recordIn}
+use Rattle.picture.specs.Draw.{chainOf}
+use Rattle.picture.proofs.Laws.{columns-fit}
+use Rattle.picture.proofs.Records.{same-records, record-in-order}
+use Rattle.picture.proofs.Sizes.{records-sized, picture-sized}
+use Rattle.readers.specs.Readers.{firstReader}
+use Rattle.readers.specs.Stored.{chainStored}
+use Rattle.readers.proofs.Readers.{is-first}
+use Rattle.readers.proofs.Stored.{unread-leaves}
+use Rattle.mending.specs.Mending.{mendedRecord, mended, marksOf}
+use Rattle.mending.specs.Store.{lengthsWithPicture, storeWithPicture}
+use Rattle.mending.specs.True.{TruePicture, KeepsTrue, MarksFresh, SameByteMarksNothing, UpperBitsMarkNothing}
+use Rattle.mending.proofs.Outcome.{lent-with-picture, unchanged, right-outcome}
+
+module _ (c : Chain) (seen : Seen) (byte : ℕ) (shared : List ℕ) (wide : c .columns ≤ recordPairs) where
+  abbrev after : Chain
+  after = chainStored c seen byte shared
+
+  -- a record ahead of the first reader is the same in the fresh pictures before and after
+  ahead-same : (row : ℕ) → row < firstReader c seen → recordAt after row ≡ recordAt c row
+  ahead-same row ahead =
+      let unread = is-first c seen .1 .1 in
+      let alike : (r : ℕ) → r < firstReader c seen → ReadAlike c after (rowAt c r) =
+          λ r h. unread-leaves c seen byte shared (rowAt c r) (unread r h) in
+      ap (recordOf after) (rows-are-what-they-read c after (firstReader c seen) alike .1 row ahead)
+      ∙ record-is-what-it-reads c after (rowAt c row) (alike row ahead)
+
+  mended-true : mended after (firstReader c seen) (pictureOf c) ≡ pictureOf after
+  mended-true =
+      same-records (mendedRecord after (firstReader c seen) (pictureOf c)) (recordAt after) rows
+      (λ row h. go row h (ltb row (firstReader c seen)) refl)
+    where
+      go :
+          (row : ℕ) → row < rows → (b : Bool) → ltb row (firstReader c seen) ≡ b
+          → cond b (recordIn (pictureOf c) row) (recordAt after row) ≡ recordAt after row
+      go row h true e =
+          record-in-order (recordAt c) rows row h (λ r g. records-sized c r wide)
+          ∙ sym (ahead-same row (ltb-true row (firstReader c seen) e))
+      go row h false e = refl
+
+-- where the byte that is stored stands there already, the chain stays
+same-byte :
+    (c : Chain) (seen : Seen) (byte : ℕ) (shared : List ℕ) → byteSeen seen shared (c .screen) (c .attribute) ≡ byteRead byte
+    → chainStored c seen byte shared ≡ c
+same-byte c (Shared place) byte shared e = refl
+same-byte c (Screen place) byte shared e =
+    let stands : getD (c .screen) place 0 ≡ byte = ap (λ (r : ByteRead). r .byte) e in
+    rw (← stands, set-getD (c .screen) place 0)
+same-byte c (Attribute place) byte shared e =
+    let stands : getD (c .attribute) place 0 ≡ byte = ap (λ (r : ByteRead). r .byte) e in
+    rw (← stands, set-getD (c .attribute) place 0)
+same-byte c Nowhere byte shared e = refl
+
+-- attributes that are the same modulo 16 give the same picture
+module _ (c : Chain) (attribute : List ℕ) (alike : (p : ℕ) → byteAt attribute p % 16 ≡ byteAt (c .attribute) p % 16) where
+  abbrev other : Chain
+  other = chain (c .columns) (c .screen) attribute
+
+  same-link : (place : ℕ) → link (c .screen) attribute place ≡ link (c .screen) (c .attribute) place
+  unfolding link
+  same-link place =
+      let kind : byteAt attribute (place + 1) % 8 ≡ byteAt (c .attribute) (place + 1) % 8 = omega (arith, alike (place + 1)) in
+      rw kind
+
+  same-next : (row : Row) → next other row ≡ next c row
+  unfolding next rowFrom terminator
+  same-next (Whole head cells) = rw (same-link (head .start + cells))
+  same-next (Torn head) = refl
+  same-next Dark = refl
+
+  same-rows : (row : ℕ) → rowAt other row ≡ rowAt c row
+  unfolding rowAt rowFrom terminator
+  same-rows zero = refl
+  same-rows (suc row) = ap (next other) (same-rows row) ∙ same-next (rowAt c row)
+
+  same-cells : (start n : ℕ) → cellPairs (c .screen) attribute start n ≡ cellPairs (c .screen) (c .attribute) start n
+  unfolding cellPairs
+  same-cells start zero = refl
+  same-cells start (suc n) = rw (same-cells start n, alike (start + n))
+
+  same-record : (row : Row) → recordOf other row ≡ recordOf c row
+  unfolding recordOf cellPairs
+  same-record (Whole head cells) = rw (same-cells (head .start) cells)
+  same-record (Torn head) = rw (same-cells (head .start) (capacity (c .columns) (head .kind)))
+  same-record Dark = refl
+
+  same-picture : pictureOf other ≡ pictureOf c
+  same-picture =
+      same-records (recordAt other) (recordAt c) rows
+      (λ row h. ap (recordOf other) (same-rows row) ∙ same-record (rowAt c row))
+
+-- a byte stored that is the same modulo 16 leaves every byte so
+same-low :
+    (memory : List ℕ) (place byte : ℕ) → byte % 16 ≡ getD memory place 0 % 16
+    → (p : ℕ) → getD (set memory place byte) p 0 % 16 ≡ getD memory p 0 % 16
+same-low [] place byte e p = refl
+same-low (x ∷ memory) zero byte e zero = e
+same-low (x ∷ memory) zero byte e (suc p) = refl
+same-low (x ∷ memory) (suc place) byte e zero = refl
+same-low (x ∷ memory) (suc place) byte e (suc p) = same-low memory place byte e p
+
+module _
+    (m : Machine)
+    (shared screen attribute picture : List ℕ)
+    (address byte : ℕ)
+    (true-before : TruePicture m shared screen attribute picture) where
+  abbrev before : Chain
+  before = chainOf m screen attribute
+
+  fresh-after :
+      let left = store8088 shared screen attribute address byte in
+      mended (chainOf m (left .screen) (left .attribute)) (firstReader before (seen8088 address)) picture
+      ≡ pictureOf (chainOf m (left .screen) (left .attribute))
+  fresh-after =
+      let lent = lent-with-picture (length shared) (length screen) (length attribute) (length picture) (true-before .lengths) in
+      rw (lent .0, true-before .fresh) (mended-true before (seen8088 address) byte shared (columns-fit m))
+
+
+  -- the lengths stay
+  lengths-after :
+      (seen : Seen) (n : ℕ)
+      → let left = storeSeen seen shared screen attribute byte in
+      lengthsWithPicture (length (left .shared)) (length (left .screen)) (length (left .attribute)) n
+      ≡ lengthsWithPicture (length shared) (length screen) (length attribute) n
+  lengths-after (Shared place) n = rw (length-set shared place byte)
+  lengths-after (Screen place) n = rw (length-set screen place byte)
+  lengths-after (Attribute place) n = rw (length-set attribute place byte)
+  lengths-after Nowhere n = refl
+
+  -- where the fresh picture stays, nothing is marked
+  none-marked-where :
+      let left = store8088 shared screen attribute address byte in
+      pictureOf (chainOf m (left .screen) (left .attribute)) ≡ pictureOf before
+      → storeWithPicture m shared screen attribute picture address byte .answer .marks ≡ 0
+  none-marked-where same =
+      rw (right-outcome m shared screen attribute picture address byte (true-before .lengths), fresh-after, same, true-before .fresh)
+      (unchanged (pictureOf before))
+
+pub keeps-true : KeepsTrue
+keeps-true m shared screen attribute picture address byte t =
+    let left = store8088 shared screen attribute address byte in
+    let lent = lent-with-picture (length shared) (length screen) (length attribute) (length picture) (t .lengths) in
+    let fresh = fresh-after m shared screen attribute picture address byte t in
+    let long = picture-sized (chainOf m (left .screen) (left .attribute)) (columns-fit m) in
+    let as-long = eqb-true (length picture) pictureBytes (lent .1) in
+    rw (right-outcome m shared screen attribute picture address byte (t .lengths))
+    (record {
+      lengths =
+          rw (fresh, long, ← as-long, lent .0, lengths-after m shared screen attribute picture address byte t (seen8088 address) (length picture))
+          (t .lengths);
+      fresh = fresh;
+    })
+
+pub marks-fresh : MarksFresh
+marks-fresh m shared screen attribute picture address byte t =
+    rw (right-outcome m shared screen attribute picture address byte (t .lengths), fresh-after m shared screen attribute picture address byte t, t .fresh)
+
+pub same-byte-marks-nothing : SameByteMarksNothing
+same-byte-marks-nothing m shared screen attribute picture address byte t same =
+    let c = chainOf m screen attribute in
+    let lent = lent-with-picture (length shared) (length screen) (length attribute) (length picture) (t .lengths) in
+    let stands : byteSeen (seen8088 address) shared screen attribute ≡ byteRead byte = rw (lent .0) at same in
+    none-marked-where m shared screen attribute picture address byte t
+    (rw (lent .0) (ap pictureOf (same-byte c (seen8088 address) byte shared stands)))
+
+pub upper-bits-mark-nothing : UpperBitsMarkNothing
+unfolding byteAt
+upper-bits-mark-nothing m shared screen attribute picture address byte place t seen low =
+    let c = chainOf m screen attribute in
+    let lent = lent-with-picture (length shared) (length screen) (length attribute) (length picture) (t .lengths) in
+    none-marked-where m shared screen attribute picture address byte t
+    (rw (lent .0, seen) (same-picture c (set attribute place byte) (λ p. same-low attribute place byte low (p % places))))
