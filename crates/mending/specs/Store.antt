@@ -29,17 +29,28 @@ abbrev pub storedWithPicture : Stored → (shared screen attribute picture : Lis
 storedWithPicture answer shared screen attribute picture =
     record { answer = answer; shared = shared; screen = screen; attribute = attribute; picture = picture }
 
+-- refused as the store with no picture is, and by 1 too if the picture's length is wrong
+abbrev pub refusalWithPicture : (shared screen attribute picture : List ℕ) → (address byte : ℕ) → ℕ
+refusalWithPicture shared screen attribute picture address byte =
+    cond (eqb (length picture) pictureBytes) (store8088 shared screen attribute address byte .refusal) lengthRefused
+
 -- "Let f be the first row that reads the stored byte, by the walk of memory before the store. The byte is stored."
--- It is stored, or refused, as by the store with no picture; the picture's length is refused by 1 too. A refusal has no marks,
--- and "all buffers .. stay".
-abbrev pub storeWithPicture : Machine → (shared screen attribute picture : List ℕ) → (address byte : ℕ) → StoredWithPicture
-storeWithPicture m shared screen attribute picture address byte =
+abbrev pub mendWithPicture : Machine → (shared screen attribute picture : List ℕ) → (address byte : ℕ) → StoredWithPicture
+mendWithPicture m shared screen attribute picture address byte =
     let f = firstReader (chainOf m screen attribute) (seen8088 address) in
     let left = store8088 shared screen attribute address byte in
     let new = mended (chainOf m (left .screen) (left .attribute)) f picture in
-    let refusal = cond (eqb (length picture) pictureBytes) (left .refusal) lengthRefused in
-    cond (eqb refusal accepted)
-    (storedWithPicture
+    storedWithPicture
     (record { refusal = accepted; marks = marksOf picture new })
-    (left .shared) (left .screen) (left .attribute) new)
-    (storedWithPicture (record { refusal = refusal; marks = 0 }) shared screen attribute picture)
+    (left .shared) (left .screen) (left .attribute) new
+
+-- a refusal has no marks, and "all buffers .. stay"
+abbrev pub refuseWithPicture : (refusal : ℕ) → (shared screen attribute picture : List ℕ) → StoredWithPicture
+refuseWithPicture refusal = storedWithPicture (record { refusal = refusal; marks = 0 })
+
+abbrev pub storeWithPicture : Machine → (shared screen attribute picture : List ℕ) → (address byte : ℕ) → StoredWithPicture
+storeWithPicture m shared screen attribute picture address byte =
+    let refusal = refusalWithPicture shared screen attribute picture address byte in
+    cond (eqb refusal accepted)
+    (mendWithPicture m shared screen attribute picture address byte)
+    (refuseWithPicture refusal shared screen attribute picture)

@@ -3,3 +3,4 @@ pub mod Choice
 pub mod Refused
 pub mod Z80
 pub mod Shadow
+pub mod Kept

@@ -22,6 +22,9 @@ use Rattle.diagnostic.specs.Diagnostic.{writtenPort}
 use Rattle.ports.proofs.write_port.Reads as write-port
 use Rattle.picture.specs.Draw.{drawn}
 use Rattle.picture.proofs.draw.Reads as draw
+use Rattle.marks.proofs.is_marked.Reads as is-marked
+use Rattle.mending.specs.Store.{storedWithPicture}
+use Rattle.mending.proofs.store_with_picture.Reads as store-with-picture
 use Rattle.listing.specs.Listing.{listed}
 use Rattle.listing.proofs.list_rows.Reads as list-rows
 
@@ -73,6 +76,14 @@ write-port-once κs a r r′ s s′ = no-second
 
 pub draw-once : Once draw.Post (λ κs r s. drawn r (now (s .1 .1 .1 .0)))
 draw-once κs a r r′ s s′ = no-second
+
+pub store-with-picture-once :
+    Once store-with-picture.Post
+    (λ κs r s. storedWithPicture r (now (s .1 .0)) (now (s .1 .1 .0)) (now (s .1 .1 .1 .0)) (now (s .1 .1 .1 .1 .0)))
+store-with-picture-once κs a r r′ s s′ = no-second
+
+pub is-marked-once : Once is-marked.Post (λ κs r s. r)
+is-marked-once κs a r r′ s s′ = no-second
 
 -- the length of the text follows from the first clause of this promise
 pub list-rows-once : Once list-rows.Post (λ κs r s. listed r (now (s .1 .1 .1 .0)) (now (s .1 .1 .1 .1 .0)))

@@ -22,8 +22,9 @@ use Rattle.dc012.specs.Dc012.{writeDc012}
 use Rattle.diagnostic.specs.Diagnostic.{WrittenPort, writtenPort, writeDiagnostic, rises}
 use Rattle.ports.specs.Ports.{lengthsNvm, watched, writePort}
 use Rattle.picture.specs.Draw.{lengthsPicture, DrawnPicture}
+use Rattle.mending.specs.Store.{StoredWithPicture, refusalWithPicture, mendWithPicture, refuseWithPicture}
 use Rattle.runs.proofs.Choice.{either}
-use Rattle.runs.specs.World.{World, Call, Read8088, Store8088, ReadZ80, StoreZ80, ReadShadow, WriteShadow, WritePort, VerticalTick, Draw, left8088, leftZ80, leftPort, leftDraw, after, answer}
+use Rattle.runs.specs.World.{World, Call, Read8088, Store8088, ReadZ80, StoreZ80, ReadShadow, WriteShadow, WritePort, VerticalTick, Draw, StoreWithPicture, left8088, leftZ80, leftPort, leftDraw, leftWithPicture, after, answer}
 use Rattle.runs.specs.Refused.{ChangesNothing}
 
 -- an answer that is refused reads no byte
@@ -131,3 +132,14 @@ changes-nothing Draw w h =
     KeptDraw : DrawnPicture → Type 0
     KeptDraw left =
         (left .answer .refusal ≡ accepted → ⊥) → (leftDraw w (left .picture) ≡ w) × (left .answer .reads ≡ 0)
+changes-nothing (StoreWithPicture a b) w h =
+    either KeptStore (eqb refusal accepted) (mendWithPicture (w .machine) (w .shared) (w .screen) (w .attribute) (w .picture) a b)
+    (refuseWithPicture refusal (w .shared) (w .screen) (w .attribute) (w .picture))
+    (λ _ g. absurd (g refl)) (λ _ g. (refl, refl)) h
+  where
+    refusal : ℕ
+    refusal = refusalWithPicture (w .shared) (w .screen) (w .attribute) (w .picture) a b
+
+    KeptStore : StoredWithPicture → Type 0
+    KeptStore left =
+        (left .answer .refusal ≡ accepted → ⊥) → (leftWithPicture w left ≡ w) × (left .answer .marks ≡ 0)

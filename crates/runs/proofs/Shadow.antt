@@ -9,7 +9,7 @@ use Rattle.machine.specs.declared.Machine.{Machine}
 use Rattle.diagnostic.specs.Diagnostic.{WrittenPort}
 use Rattle.diagnostic.specs.Diagnostic.{rises, writeDiagnostic}
 use Rattle.ports.specs.Ports.{lengthsNvm}
-use Rattle.runs.specs.World.{World, Call, Read8088, Store8088, ReadZ80, StoreZ80, ReadShadow, WriteShadow, WritePort, VerticalTick, Draw, after}
+use Rattle.runs.specs.World.{World, Call, Read8088, Store8088, ReadZ80, StoreZ80, ReadShadow, WriteShadow, WritePort, VerticalTick, Draw, StoreWithPicture, after}
 use Rattle.runs.proofs.Choice.{either}
 use Rattle.runs.specs.Shadow.{writesOrRecalls, NothingElse, MovesAll}
 
@@ -37,6 +37,7 @@ nothing-else (StoreZ80 address byte) w h = refl
 nothing-else (ReadShadow place) w h = refl
 nothing-else VerticalTick w h = refl
 nothing-else Draw w h = refl
+nothing-else (StoreWithPicture address byte) w h = refl
 
 pub moves-all : MovesAll
 moves-all w code lent = (

@@ -9,15 +9,17 @@ use lib.Seq.{getD-set-same, getD-set-other, getD-drop, take-set-le, drop-set-add
 use lib.Dec.{eqb, ltb}
 use borrow.Author.Tests.{eqb-true, eqb-false, leb-true, leb-false, ltb-true, ltb-false}
 use Rattle.lent.specs.Lengths.{sharedBytes, privateBytes}
+use Rattle.lent.specs.Refusals.{accepted}
 use Rattle.lent.specs.Answer.{readRefused}
-use Rattle.memories.specs.View8088.{lengths8088, seen8088, storeSeen, stored8088}
+use Rattle.memories.specs.View8088.{lengths8088, seen8088, storeSeen, Stored8088, store8088}
 use Rattle.memories.specs.declared.view8088.Seen.{Seen}
 use Rattle.memories.specs.declared.view8088.Seen.the-variants.{Shared, Screen, Attribute, Nowhere}
 use Rattle.memories.specs.ViewZ80.{isPrivate, lengthsZ80, seenZ80, StoredZ80, storeZ80, storedZ80}
 use Rattle.memories.proofs.Laws.{lentZ80, placed}
-use Rattle.runs.specs.World.{World, Call, Read8088, Store8088, ReadZ80, StoreZ80, ReadShadow, WriteShadow, WritePort, VerticalTick, Draw, left8088, leftZ80, after, answer}
+use Rattle.mending.specs.Store.{StoredWithPicture, refusalWithPicture, mendWithPicture, refuseWithPicture}
+use Rattle.runs.specs.World.{World, Call, Read8088, Store8088, ReadZ80, StoreZ80, ReadShadow, WriteShadow, WritePort, VerticalTick, Draw, StoreWithPicture, leftZ80, leftWithPicture, after, answer}
 use Rattle.runs.proofs.Choice.{either}
-use Rattle.runs.specs.Z80.{OnlyAt, ChangesOneByte, OnlyItsOwn, Agree, isZ80, unseenByZ80, Turn, Both, First, Second, first, second, turned, heard, ended, answers, SameAnswers}
+use Rattle.runs.specs.Z80.{OnlyAt, ChangesOneByte, OnlyItsOwn, Agree, isZ80, outside, unseenByZ80, Turn, Both, First, Second, first, second, turned, heard, ended, answers, SameAnswers}
 
 -- an address that is not private is 0800 or more
 shared-from : (a : ℕ) → isPrivate a ≡ false → 0x0800 ≤ a
@@ -89,6 +91,7 @@ only-its-own (WriteShadow p b) w h = absurd (false≢true h)
 only-its-own (WritePort p k) w h = absurd (false≢true h)
 only-its-own VerticalTick w h = absurd (false≢true h)
 only-its-own Draw w h = absurd (false≢true h)
+only-its-own (StoreWithPicture a b) w h = absurd (false≢true h)
 
 -- what lies from 0800 up is the same byte at each such address
 same-from :
@@ -156,6 +159,7 @@ module _ (w v : World) (same : Agree w v) where
   z80 (WritePort p k) h = absurd (false≢true h)
   z80 VerticalTick h = absurd (false≢true h)
   z80 Draw h = absurd (false≢true h)
+  z80 (StoreWithPicture a b) h = absurd (false≢true h)
 
 agree-sym : {w v : World} → Agree w v → Agree v w
 agree-sym h =
@@ -173,35 +177,46 @@ agree-refl : (w : World) → Agree w w
 agree-refl w = record { private = refl; shared-length = refl; from0800 = refl }
 
 -- an address that is unseen and no more than FFFF is less than 0800
-outside : (a : ℕ) → ltb a 0x0800 || ltb 0xFFFF a ≡ true → a ≤ 0xFFFF → a < 0x0800
-outside a h k = go (ltb a 0x0800) refl h
+below : (a : ℕ) → outside a ≡ true → a ≤ 0xFFFF → a < 0x0800
+below a h k = go (ltb a 0x0800) refl h
   where
     go : (b : Bool) → ltb a 0x0800 ≡ b → b || ltb 0xFFFF a ≡ true → a < 0x0800
     go true e g = ltb-true a 0x0800 e
     go false e g = absurd (omega (arith, k, ltb-true 0xFFFF a g))
 
+-- a store of the 8088 that the Z80 cannot see leaves what it sees of shared memory
+store-unseen :
+    (w : World) (a b : ℕ) → outside a ≡ true
+    → let left = store8088 (w .shared) (w .screen) (w .attribute) a b .shared in
+    (length left ≡ length (w .shared)) × (drop 0x0800 left ≡ drop 0x0800 (w .shared))
+store-unseen w a b h =
+    either Unseen (lengths8088 (length (w .shared)) (length (w .screen)) (length (w .attribute))) _ _
+    (λ _. go (seen8088 a) refl) (λ _. (refl, refl))
+  where
+    Unseen : Stored8088 → Type 0
+    Unseen left = (length (left .shared) ≡ length (w .shared)) × (drop 0x0800 (left .shared) ≡ drop 0x0800 (w .shared))
+
+    go : (seen : Seen) → seen8088 a ≡ seen → Unseen (storeSeen seen (w .shared) (w .screen) (w .attribute) b)
+    go (Shared place) e =
+        let lies = placed a refl e in
+        let under : place < 0x0800 = omega (arith, lies, below a h (omega (arith, lies))) in
+        (length-set (w .shared) place b, drop-set-lt 0x0800 (w .shared) place b under)
+    go (Screen place) e = (refl, refl)
+    go (Attribute place) e = (refl, refl)
+    go Nowhere e = (refl, refl)
+
 -- a call that the Z80 cannot see leaves what a Z80 answer depends on
 unseen : (call : Call) (w : World) → unseenByZ80 call ≡ true → Agree (after call w) w
-unseen (Store8088 a b) w h = go (lengths8088 (length (w .shared)) (length (w .screen)) (length (w .attribute))) (seen8088 a) refl
-  where
-    below : (place : ℕ) → seen8088 a ≡ Shared place → place < 0x0800
-    below place e = let lies = placed a refl e in omega (arith, lies, outside a h (omega (arith, lies)))
-
-    go :
-        (t : Bool) (seen : Seen) → seen8088 a ≡ seen
-        → Agree
-        (left8088 w (cond t (storeSeen seen (w .shared) (w .screen) (w .attribute) b) (stored8088 1 (w .shared) (w .screen) (w .attribute))))
-        w
-    go true (Shared place) e =
-        record {
-          private = refl;
-          shared-length = length-set (w .shared) place b;
-          from0800 = drop-set-lt 0x0800 (w .shared) place b (below place e);
-        }
-    go true (Screen place) e = record { private = refl; shared-length = refl; from0800 = refl }
-    go true (Attribute place) e = record { private = refl; shared-length = refl; from0800 = refl }
-    go true Nowhere e = record { private = refl; shared-length = refl; from0800 = refl }
-    go false seen e = record { private = refl; shared-length = refl; from0800 = refl }
+unseen (Store8088 a b) w h =
+    let left = store-unseen w a b h in
+    record { private = refl; shared-length = left .0; from0800 = left .1 }
+unseen (StoreWithPicture a b) w h =
+    let left = store-unseen w a b h in
+    let refusal = refusalWithPicture (w .shared) (w .screen) (w .attribute) (w .picture) a b in
+    either (λ (s : StoredWithPicture). Agree (leftWithPicture w s) w) (eqb refusal accepted)
+    (mendWithPicture (w .machine) (w .shared) (w .screen) (w .attribute) (w .picture) a b)
+    (refuseWithPicture refusal (w .shared) (w .screen) (w .attribute) (w .picture))
+    (λ _. record { private = refl; shared-length = left .0; from0800 = left .1 }) (λ _. agree-refl w)
 unseen (Read8088 a) w h = agree-refl w
 unseen (ReadShadow p) w h = agree-refl w
 unseen (WriteShadow p b) w h = record { private = refl; shared-length = refl; from0800 = refl }

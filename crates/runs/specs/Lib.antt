@@ -2,3 +2,4 @@ pub mod World
 pub mod Refused
 pub mod Z80
 pub mod Shadow
+pub mod Kept

@@ -12,6 +12,7 @@ use Rattle.shadow.specs.Shadow.{readShadow, writeShadow, WrittenShadow}
 use Rattle.diagnostic.specs.Diagnostic.{WrittenPort}
 use Rattle.ports.specs.Ports.{writePort}
 use Rattle.picture.specs.Draw.{draw}
+use Rattle.mending.specs.Store.{storeWithPicture, StoredWithPicture}
 
 -- the machine and the memories that a user keeps and lends
 pub record World : Type 0 where
@@ -35,6 +36,7 @@ pub data Call : Type 0 where
   WritePort : (port code : ℕ) → Call
   VerticalTick : Call
   Draw : Call
+  StoreWithPicture : (address byte : ℕ) → Call
 
 -- the world with what a call left in place of what it was lent
 abbrev pub left8088 : World → Stored8088 → World
@@ -89,6 +91,19 @@ leftDraw w picture =
       picture = picture;
     }
 
+abbrev pub leftWithPicture : World → StoredWithPicture → World
+leftWithPicture w left =
+    record {
+      machine = w .machine;
+      shared = left .shared;
+      private = w .private;
+      screen = left .screen;
+      attribute = left .attribute;
+      nvm = w .nvm;
+      shadow = w .shadow;
+      picture = left .picture;
+    }
+
 -- the world after a call
 abbrev pub after : Call → World → World
 after (Read8088 address) w = w
@@ -102,9 +117,11 @@ after (WritePort port code) w =
     leftPort w (left .answer .machine) (left .shadow) (left .nvm)
 after VerticalTick w = leftPort w (verticalTick (w .machine)) (w .shadow) (w .nvm)
 after Draw w = leftDraw w (draw (w .machine) (w .screen) (w .attribute) (w .picture) .picture)
+after (StoreWithPicture address byte) w =
+    leftWithPicture w (storeWithPicture (w .machine) (w .shared) (w .screen) (w .attribute) (w .picture) address byte)
 
--- what a call answers: its number of refusal and its other number, the byte read or the bytes that the walk read, 0 where it
--- has none
+-- what a call answers: its number of refusal and its other number, the byte read, the bytes that the walk read or the marks, 0
+-- where it has none
 abbrev pub answer : Call → World → ByteRead
 answer (Read8088 address) w = read8088 (w .shared) (w .screen) (w .attribute) address
 answer (Store8088 address byte) w = readRefused (store8088 (w .shared) (w .screen) (w .attribute) address byte .refusal)
@@ -117,3 +134,6 @@ answer VerticalTick w = readRefused accepted
 answer Draw w =
     let left = draw (w .machine) (w .screen) (w .attribute) (w .picture) in
     record { refusal = left .answer .refusal; byte = left .answer .reads }
+answer (StoreWithPicture address byte) w =
+    let left = storeWithPicture (w .machine) (w .shared) (w .screen) (w .attribute) (w .picture) address byte in
+    record { refusal = left .answer .refusal; byte = left .answer .marks }

@@ -8,7 +8,7 @@ use lib.Dec.{eqb, ltb}
 use Rattle.lent.specs.Lengths.{sharedBytes, privateBytes}
 use Rattle.lent.specs.declared.ByteRead.{ByteRead}
 use Rattle.memories.specs.ViewZ80.{isPrivate, lengthsZ80, storeZ80}
-use Rattle.runs.specs.World.{World, Call, Read8088, Store8088, ReadZ80, StoreZ80, ReadShadow, WriteShadow, WritePort, VerticalTick, Draw, after, answer}
+use Rattle.runs.specs.World.{World, Call, Read8088, Store8088, ReadZ80, StoreZ80, ReadShadow, WriteShadow, WritePort, VerticalTick, Draw, StoreWithPicture, after, answer}
 
 -- a memory as it was but for one place, where it holds a byte if the test holds
 abbrev pub OnlyAt : Bool → ℕ → ℕ → List ℕ → List ℕ → Type 0
@@ -40,6 +40,7 @@ isZ80 (WriteShadow place value) = false
 isZ80 (WritePort port code) = false
 isZ80 VerticalTick = false
 isZ80 Draw = false
+isZ80 (StoreWithPicture address byte) = false
 
 -- "The Z80 reads and writes only its own 2 KB and the 62 KB that it shares": of the world a Z80 call leaves all but private
 -- memory and shared memory from 0800 up
@@ -55,9 +56,14 @@ pub record LeavesTheRest (w v : World) : Type 0 where
 abbrev pub OnlyItsOwn : Type 0
 OnlyItsOwn = (call : Call) (w : World) → isZ80 call ≡ true → LeavesTheRest w (after call w)
 
+-- an 8088 address at which the Z80 sees nothing
+abbrev pub outside : ℕ → Bool
+outside address = ltb address 0x0800 || ltb 0xFFFF address
+
 -- a call that is no Z80 call and stores nothing at 0800 to FFFF
 abbrev pub unseenByZ80 : Call → Bool
-unseenByZ80 (Store8088 address byte) = ltb address 0x0800 || ltb 0xFFFF address
+unseenByZ80 (Store8088 address byte) = outside address
+unseenByZ80 (StoreWithPicture address byte) = outside address
 unseenByZ80 (ReadZ80 address) = false
 unseenByZ80 (StoreZ80 address byte) = false
 unseenByZ80 (Read8088 address) = true
