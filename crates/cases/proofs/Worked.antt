@@ -5,15 +5,19 @@ use Rattle.memories.specs.View8088.{within, lengths8088, seen8088}
 use Rattle.memories.specs.ViewZ80.{lengthsZ80, isPrivate}
 use Rattle.ports.specs.Ports.{lengthsNvm}
 use Rattle.chain.specs.Chain.{byteAt, capacity, firstFF, terminator, link, rowFrom, next, rowAt}
-use Rattle.chain.specs.Reading.{reads, readsTo}
+use Rattle.chain.specs.Reading.{reads, readsTo, from, screenRead, attributeRead}
 use Rattle.records.specs.Record.{cellPairs, fillPairs, recordOf}
-use Rattle.picture.specs.Picture.{inOrder}
+use Rattle.picture.specs.Picture.{inOrder, recordIn}
 use Rattle.picture.specs.Draw.{lengthsPicture}
+use Rattle.readers.specs.Readers.{among, firstFrom}
+use Rattle.marks.specs.Marks.{bitSet, marksTo}
+use Rattle.mending.specs.Mending.{sameBytes}
 use Rattle.cases.specs.Said.{Said, Case, differ}
 use Rattle.cases.specs.Screens.{alikeFrom, alike, drawnFrom, rowsOf, drawnAll, memory, byteOfRow, startOfRow, countOfRow}
 use Rattle.cases.specs.Memories.{zeros, refusedBy, storedByZ80, storedBy8088}
 use Rattle.cases.specs.Ports.{shadow, nvm, written, writtenAll, none, recalls}
-use Rattle.cases.specs.Table.{screens, stores, writes, table}
+use Rattle.cases.specs.Mends.{markedOf, markedFrom, marked, storedAt, mendedRow}
+use Rattle.cases.specs.Table.{screens, stores, writes, mends, table}
 
 abbrev gives : List Case → List (List Said)
 gives = map (λ (c : Case). c .gives)
@@ -33,6 +37,10 @@ written-out : gives writes ≡ says writes
 unfolding lengthsNvm differ shadow nvm written writtenAll none recalls writes
 written-out = refl
 
+mended-out : gives mends ≡ says mends
+unfolding byteAt capacity firstFF terminator link rowFrom next rowAt screenRead attributeRead from cellPairs fillPairs recordOf inOrder recordIn lengthsPicture within lengths8088 seen8088 among firstFrom sameBytes bitSet marksTo drawnFrom rowsOf memory zeros markedOf markedFrom marked storedAt mendedRow mends
+mended-out = refl
+
 pub worked : map (λ (c : Case). c .gives) table ≡ map (λ (c : Case). c .says) table
 unfolding table
-worked = simp map-append (rw (drawn, stored, written-out))
+worked = simp map-append (rw (drawn, stored, written-out, mended-out))

@@ -2,4 +2,5 @@ pub mod Said
 pub mod Screens
 pub mod Memories
 pub mod Ports
+pub mod Mends
 pub mod Table

@@ -16,6 +16,7 @@ pub data Said : Type 0 where
   Start : ℕ → Said
   Count : ℕ → Said
   Reads : ℕ → Said
+  Marked : (row : ℕ) → Said
 
 -- a case: what the definitions give, and what document 01 says
 pub record Case : Type 0 where

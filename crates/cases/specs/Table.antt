@@ -10,6 +10,7 @@ use Rattle.cases.specs.Said.{Case, Private, Shared, Screen, Attribute, R
 use Rattle.cases.specs.Screens.{alike, drawnAll, startOfRow, countOfRow}
 use Rattle.cases.specs.Memories.{storedByZ80, storedBy8088}
 use Rattle.cases.specs.Ports.{writtenAll, recalls}
+use Rattle.cases.specs.Mends.{marked, mendedRow}
 
 -- P1 to P6
 unfoldable pub screens : List Case
@@ -67,5 +68,11 @@ writes =
     ∷ record { gives = Recalls (recalls 0x0A powerUp (0x83 ∷ 0x83 ∷ [])) ∷ []; says = Recalls 1 ∷ [] }
     ∷ []
 
+-- P13
+unfoldable pub mends : List Case
+mends =
+    -- P13: screen FF then 00s, attribute all 03; store 01 at place 2: row 1 torn at 256; marks rows 1 to 23, not 0
+    record { gives = mendedRow 1 (0xFF ∷ []) 0x03 2 0x01; says = Row 1 256 3 tornCount ∷ marked 1 23 } ∷ []
+
 unfoldable pub table : List Case
-table = screens ++ stores ++ writes
+table = screens ++ stores ++ writes ++ mends

@@ -47,7 +47,7 @@ module _
       let new = getD drawn at 0 in
       let kept-at : getD kept at 0 ≡ old = sym (at-left kept) ∙ ap (λ (l : List ℕ). getD l 0 0) (r .left) ∙ at-left before in
       let alike = same-more (take at before) (take at drawn) old new
-          (length-take-le at before (omega arith) ∙ sym (length-take-le at drawn (omega arith))) in
+      (length-take-le at before (omega arith) ∙ sym (length-take-le at drawn (omega arith))) in
       record {
         within = omega arith;
         same = simp length-set (r .same);

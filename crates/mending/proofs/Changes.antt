@@ -1,11 +1,10 @@
 -- What changes and what is marked: the statements of specs/Changes.antt.
-use Prim.Native.Nat.{ℕ, _≤_, _<_}
+use Prim.Native.Nat.{ℕ, _<_}
 use mathlib.Core.Path.{_≡_, refl, sym, ap, _∙_}
 use mathlib.Core.List.{List}
 use mathlib.Core.Bool.{Bool, true, false, not, _&&_, true≢false}
-use native.Mathlib.Omega.{arith}
 use lib.ListN.{length}
-use lib.Dec.{eqb, ltb}
+use lib.Dec.{ltb}
 use borrow.Author.Tests.{lt-ltb, le-ltb, eqb-true, not-true, not-false}
 use Rattle.lent.specs.Lengths.{pictureBytes}
 use Rattle.machine.specs.declared.Machine.{Machine}
@@ -15,9 +14,9 @@ use Rattle.picture.specs.Picture.{recordIn}
 use Rattle.picture.specs.Draw.{chainOf}
 use Rattle.picture.proofs.Laws.{columns-fit}
 use Rattle.readers.specs.Readers.{firstReader}
-use Rattle.marks.specs.Marks.{bitSet, marksTo}
+use Rattle.marks.specs.Marks.{bitSet}
 use Rattle.marks.proofs.Marks.{bit-by-bit}
-use Rattle.mending.specs.Mending.{sameBytes, changed, mended, marksOf}
+use Rattle.mending.specs.Mending.{sameBytes, changed, marksOf}
 use Rattle.mending.specs.Store.{lengthsWithPicture, StoredWithPicture, storeWithPicture}
 use Rattle.mending.specs.Changes.{LeavesAhead, MarksTheChanged}
 use Rattle.mending.proofs.Same.{same-self, same-true}
@@ -61,8 +60,8 @@ marks-the-changed m shared screen attribute picture address byte row =
     let before = recordIn picture row in
     let new = recordIn (left m shared screen attribute picture address byte .picture) row in (
       λ under is same.
-        let changes : not (sameBytes before new) ≡ true = rw (told, lt-ltb row rows under) at is in
-        true≢false (sym (same-self before) ∙ ap (sameBytes before) (sym same) ∙ not-true (sameBytes before new) changes),
+          let changes : not (sameBytes before new) ≡ true = rw (told, lt-ltb row rows under) at is in
+          true≢false (sym (same-self before) ∙ ap (sameBytes before) (sym same) ∙ not-true (sameBytes before new) changes),
       (
         λ under is. sym (same-true before new (not-false (sameBytes before new) (rw (told, lt-ltb row rows under) at is))),
         λ over. rw (told, le-ltb row rows over),

@@ -1,22 +1,22 @@
 -- The store's outcome: what the lengths tell, that the walk before the store comes to f as the walk after it does, and what
 -- the three steps of the store leave.
-use Prim.Native.Nat.{ℕ, _+_, _≤_, _<_}
-use mathlib.Core.Path.{_≡_, refl, sym, ap, _∙_, subst}
+use Prim.Native.Nat.{ℕ}
+use mathlib.Core.Path.{_≡_, refl, sym, ap, _∙_}
 use mathlib.Core.List.{List}
-use mathlib.Core.Bool.{Bool, true, false, cond, _&&_, true≢false, and-eq-true-iff}
+use mathlib.Core.Bool.{Bool, true, false, _&&_, true≢false, and-eq-true-iff}
 use native.Mathlib.Omega.{arith}
 use lib.ListN.{length}
 use lib.Seq.{take-all}
-use lib.Dec.{eqb, ltb}
+use lib.Dec.{eqb}
 use borrow.Author.Tests.{lt-ltb, eqb-true}
-use Rattle.lent.specs.Lengths.{sharedBytes, screenBytes, attributeBytes, pictureBytes}
+use Rattle.lent.specs.Lengths.{pictureBytes}
 use Rattle.lent.specs.Refusals.{lengthRefused}
 use Rattle.machine.specs.declared.Machine.{Machine}
 use Rattle.machine.specs.Settings.{columns}
-use Rattle.memories.specs.View8088.{lengths8088, seen8088, Stored8088, stored8088, storeSeen, store8088}
+use Rattle.memories.specs.View8088.{lengths8088, seen8088, Stored8088, stored8088, store8088}
 use Rattle.memories.specs.declared.view8088.Seen.{Seen}
 use Rattle.memories.specs.declared.view8088.Seen.the-variants.{Shared, Screen, Attribute, Nowhere}
-use Rattle.memories.proofs.Laws.{Lies, lent8088, placed}
+use Rattle.memories.proofs.Laws.{Lies, placed}
 use Rattle.chain.specs.Chain.{Chain, chain, rows, rowAt}
 use Rattle.chain.proofs.Alike.{rows-are-what-they-read}
 use Rattle.picture.specs.Picture.{recordIn}
@@ -30,7 +30,7 @@ use Rattle.readers.proofs.Readers.{none-off-screen, is-first}
 use Rattle.readers.proofs.Stored.{unread-leaves}
 use Rattle.marks.proofs.Laws.{none-marked}
 use Rattle.mending.specs.Mending.{mendedRecord, mended, changed, marksOf}
-use Rattle.mending.specs.Store.{lengthsWithPicture, storedWithPicture, storeWithPicture, StoredWithPicture}
+use Rattle.mending.specs.Store.{lengthsWithPicture, storedWithPicture, storeWithPicture}
 use Rattle.mending.proofs.Same.{same-self}
 
 -- the lengths are those of the list where the test holds

@@ -5,9 +5,9 @@ use mathlib.Core.List.{List, [], _∷_}
 use mathlib.Core.Bool.{Bool, true, false, cond}
 use native.Mathlib.Omega.{arith}
 use lib.ListN.{length, getD, set, length-set}
-use lib.Seq.{set-getD, getD-set-same, getD-set-other}
-use lib.Dec.{eqb, ltb}
-use borrow.Author.Tests.{ltb-true, eqb-true, eqb-false}
+use lib.Seq.{set-getD}
+use lib.Dec.{ltb}
+use borrow.Author.Tests.{ltb-true, eqb-true}
 use Rattle.lent.specs.Answer.{byteRead}
 use Rattle.lent.specs.declared.ByteRead.{ByteRead}
 use Rattle.lent.specs.Lengths.{pictureBytes}
@@ -29,7 +29,7 @@ use Rattle.readers.specs.Readers.{firstReader}
 use Rattle.readers.specs.Stored.{chainStored}
 use Rattle.readers.proofs.Readers.{is-first}
 use Rattle.readers.proofs.Stored.{unread-leaves}
-use Rattle.mending.specs.Mending.{mendedRecord, mended, marksOf}
+use Rattle.mending.specs.Mending.{mendedRecord, mended}
 use Rattle.mending.specs.Store.{lengthsWithPicture, storeWithPicture}
 use Rattle.mending.specs.True.{TruePicture, KeepsTrue, MarksFresh, SameByteMarksNothing, UpperBitsMarkNothing}
 use Rattle.mending.proofs.Outcome.{lent-with-picture, unchanged, right-outcome}
@@ -43,7 +43,7 @@ module _ (c : Chain) (seen : Seen) (byte : ℕ) (shared : List ℕ) (wide : c .c
   ahead-same row ahead =
       let unread = is-first c seen .1 .1 in
       let alike : (r : ℕ) → r < firstReader c seen → ReadAlike c after (rowAt c r) =
-          λ r h. unread-leaves c seen byte shared (rowAt c r) (unread r h) in
+      λ r h. unread-leaves c seen byte shared (rowAt c r) (unread r h) in
       ap (recordOf after) (rows-are-what-they-read c after (firstReader c seen) alike .1 row ahead)
       ∙ record-is-what-it-reads c after (rowAt c row) (alike row ahead)
 
@@ -136,7 +136,6 @@ module _
   fresh-after =
       let lent = lent-with-picture (length shared) (length screen) (length attribute) (length picture) (true-before .lengths) in
       rw (lent .0, true-before .fresh) (mended-true before (seen8088 address) byte shared (columns-fit m))
-
 
   -- the lengths stay
   lengths-after :

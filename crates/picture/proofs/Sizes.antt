@@ -6,12 +6,12 @@ use native.Mathlib.Omega.{arith}
 use lib.ListN.{length, length-append}
 use Rattle.chain.specs.Chain.{Chain, Row, Whole, Torn, Dark, rows, rowAt}
 use Rattle.chain.specs.Reading.{reads}
-use Rattle.records.specs.Record.{recordBytes, recordPairs, cellPairs, fillPairs, cellsShown, recordOf}
+use Rattle.records.specs.Record.{cellPairs, fillPairs, cellsShown, recordOf}
 use Rattle.chain.proofs.Laws.{capacity-within}
 use Rattle.chain.proofs.Reading.{reads-at}
 use Rattle.picture.specs.Picture.{recordAt}
-use Rattle.picture.proofs.Records.{records-length}
 use Rattle.picture.specs.Sizes.{RecordsSized, PictureSized}
+use Rattle.picture.proofs.Records.{records-length}
 
 cells-length : (screen attribute : List ℕ) (start cells : ℕ) → length (cellPairs screen attribute start cells) ≡ 2 * cells
 unfolding cellPairs

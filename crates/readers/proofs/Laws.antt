@@ -47,7 +47,7 @@ module _ (place start : ℕ) (lies : place < places) (begins : start < places) w
           rw h (sym (lt-ltb (offset place start) (bytes + suc n) (omega arith)))
       go false h later =
           let other : (offset place start ≡ bytes → ⊥) =
-              eqb-false (offset place start) bytes (same-offset at bytes e (omega arith) false h) in
+          eqb-false (offset place start) bytes (same-offset at bytes e (omega arith) false h) in
           let on : bytes + 1 ≤ offset place start = omega (arith, other) in
           let one : bytes + 1 + n ≡ bytes + suc n = omega arith in
           rw h (later on (omega arith) ∙ ap (ltb (offset place start)) one)

@@ -1,15 +1,15 @@
 -- A store that a row does not read leaves what the row reads: the statement of specs/Stored.antt.
 use Prim.Native.Nat.{ℕ, zero, suc, _+_, _%_}
 use mathlib.Core.Path.{_≡_, refl, sym, _∙_}
-use mathlib.Core.List.{List, [], _∷_, _++_, map-append}
-use mathlib.Core.Bool.{Bool, true, false, cond, _||_, true≢false}
+use mathlib.Core.List.{List, _++_, map-append}
+use mathlib.Core.Bool.{Bool, true, false, true≢false}
 use native.Mathlib.Nat.{mod-mod}
-use lib.ListN.{getD, set}
+use lib.ListN.{set}
 use lib.Seq.{getD-set-other}
 use lib.Dec.{eqb}
 use borrow.Author.Tests.{eqb-false}
 use Rattle.memories.specs.declared.view8088.Seen.the-variants.{Shared, Screen, Attribute, Nowhere}
-use Rattle.chain.specs.Chain.{Chain, Row, Whole, Torn, Dark, places, byteAt, capacity}
+use Rattle.chain.specs.Chain.{Row, Whole, Torn, Dark, places, byteAt, capacity}
 use Rattle.chain.specs.Reading.{from, screenRead, attributeRead}
 use Rattle.chain.specs.Alike.{bytesAt}
 use Rattle.readers.specs.Readers.{among}

@@ -2,14 +2,11 @@
 use Prim.Native.Nat.{ℕ}
 use mathlib.Core.Path.{_≡_, refl, sym, ap, _∙_}
 use mathlib.Core.List.{List, [], _∷_}
-use mathlib.Core.Bool.{Bool, true, false, not, cond, _&&_, true≢false, false≢true, and-eq-true-iff}
+use mathlib.Core.Bool.{Bool, true, false, not, cond, true≢false, false≢true, and-eq-true-iff}
 use native.Mathlib.Omega.{arith}
 use lib.ListN.{length}
-use lib.Dec.{eqb}
-use borrow.Author.Tests.{eqb-true, not-true}
-use Rattle.lent.specs.Lengths.{pictureBytes}
+use borrow.Author.Tests.{not-true}
 use Rattle.lent.specs.Refusals.{accepted, lengthRefused}
-use Rattle.machine.specs.declared.Machine.{Machine}
 use Rattle.memories.proofs.Laws.{lent8088}
 use Rattle.picture.specs.Picture.{pictureOf}
 use Rattle.picture.specs.Draw.{lengthsPicture, DrawnPicture, chainOf}
@@ -19,9 +16,9 @@ use Rattle.mending.specs.Store.{lengthsWithPicture, storeWithPicture}
 use Rattle.mending.specs.True.{TruePicture}
 use Rattle.mending.proofs.Outcome.{lent-with-picture, refused-outcome}
 use Rattle.mending.proofs.True.{keeps-true}
-use Rattle.runs.specs.World.{World, Call, Read8088, Store8088, ReadZ80, StoreZ80, ReadShadow, WriteShadow, WritePort, VerticalTick, Draw, StoreWithPicture, leftWithPicture, after, answer}
+use Rattle.runs.specs.World.{World, Call, Read8088, Store8088, ReadZ80, StoreZ80, ReadShadow, WriteShadow, WritePort, VerticalTick, Draw, StoreWithPicture, after, answer}
+use Rattle.runs.specs.Kept.{inRuns, allInRuns, sameColumns, played, playedAll, Kept, KeptByRuns, KeptFromDrawing, LeaveTheScreen}
 use Rattle.runs.proofs.Choice.{either}
-use Rattle.runs.specs.Kept.{inRuns, allInRuns, sameColumns, played, playedAll, Kept, KeptByRuns, KeptFromDrawing, storesByThe8088, LeaveTheScreen}
 
 -- whether a drawing is accepted
 abbrev drawable : World → Bool
@@ -97,11 +94,11 @@ module _ (w : World) where
           let is-fresh : fresh ≡ w .picture = rw drawn at k in
           let left = storeWithPicture (w .machine) (w .shared) (w .screen) (w .attribute) (w .picture) a b in
           let is-true : TruePicture (w .machine) (w .shared) (w .screen) (w .attribute) (w .picture) =
-              record { lengths = h; fresh = sym is-fresh } in
+          record { lengths = h; fresh = sym is-fresh } in
           let t = keeps-true (w .machine) (w .shared) (w .screen) (w .attribute) (w .picture) a b is-true in
           let draws =
-              drawable-too (length (left .shared)) (length (left .screen)) (length (left .attribute)) (length (left .picture))
-              (t .lengths) in
+          drawable-too (length (left .shared)) (length (left .screen)) (length (left .attribute)) (length (left .picture))
+          (t .lengths) in
           record { kept = rw draws (sym (t .fresh)); accepts = draws ∙ sym drawn }
       go false h =
           rw (← refused-outcome (w .machine) (w .shared) (w .screen) (w .attribute) (w .picture) a b h)

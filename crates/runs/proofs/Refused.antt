@@ -23,9 +23,9 @@ use Rattle.diagnostic.specs.Diagnostic.{WrittenPort, writtenPort, writeDiagnost
 use Rattle.ports.specs.Ports.{lengthsNvm, watched, writePort}
 use Rattle.picture.specs.Draw.{lengthsPicture, DrawnPicture}
 use Rattle.mending.specs.Store.{StoredWithPicture, refusalWithPicture, mendWithPicture, refuseWithPicture}
-use Rattle.runs.proofs.Choice.{either}
-use Rattle.runs.specs.World.{World, Call, Read8088, Store8088, ReadZ80, StoreZ80, ReadShadow, WriteShadow, WritePort, VerticalTick, Draw, StoreWithPicture, left8088, leftZ80, leftPort, leftDraw, leftWithPicture, after, answer}
+use Rattle.runs.specs.World.{World, Read8088, Store8088, ReadZ80, StoreZ80, ReadShadow, WriteShadow, WritePort, VerticalTick, Draw, StoreWithPicture, left8088, leftZ80, leftPort, leftDraw, leftWithPicture, after, answer}
 use Rattle.runs.specs.Refused.{ChangesNothing}
+use Rattle.runs.proofs.Choice.{either}
 
 -- an answer that is refused reads no byte
 abbrev Silent : ByteRead → Type 0

@@ -2,16 +2,15 @@
 use Prim.Native.Nat.{ℕ}
 use mathlib.Core.Path.{_≡_, refl}
 use mathlib.Core.List.{List}
-use mathlib.Core.Bool.{Bool, true, false, cond, _&&_, and-false, true≢false}
+use mathlib.Core.Bool.{true, false, and-false, true≢false}
 use lib.ListN.{length}
 use lib.Dec.{eqb}
 use Rattle.machine.specs.declared.Machine.{Machine}
-use Rattle.diagnostic.specs.Diagnostic.{WrittenPort}
-use Rattle.diagnostic.specs.Diagnostic.{rises, writeDiagnostic}
+use Rattle.diagnostic.specs.Diagnostic.{WrittenPort, rises, writeDiagnostic}
 use Rattle.ports.specs.Ports.{lengthsNvm}
-use Rattle.runs.specs.World.{World, Call, Read8088, Store8088, ReadZ80, StoreZ80, ReadShadow, WriteShadow, WritePort, VerticalTick, Draw, StoreWithPicture, after}
+use Rattle.runs.specs.World.{Read8088, Store8088, ReadZ80, StoreZ80, ReadShadow, WriteShadow, WritePort, VerticalTick, Draw, StoreWithPicture}
+use Rattle.runs.specs.Shadow.{NothingElse, MovesAll}
 use Rattle.runs.proofs.Choice.{either}
-use Rattle.runs.specs.Shadow.{writesOrRecalls, NothingElse, MovesAll}
 
 -- port 0A leaves the shadow where bit 7 does not rise
 not-recalled :

@@ -7,19 +7,19 @@ use native.Mathlib.Omega.{arith}
 use lib.ListN.{length, getD, set, take, drop, length-set}
 use lib.Seq.{getD-set-same, getD-set-other, getD-drop, take-set-le, drop-set-add, drop-set-lt}
 use lib.Dec.{eqb, ltb}
-use borrow.Author.Tests.{eqb-true, eqb-false, leb-true, leb-false, ltb-true, ltb-false}
+use borrow.Author.Tests.{eqb-true, eqb-false, leb-true, leb-false, ltb-true}
 use Rattle.lent.specs.Lengths.{sharedBytes, privateBytes}
 use Rattle.lent.specs.Refusals.{accepted}
 use Rattle.lent.specs.Answer.{readRefused}
 use Rattle.memories.specs.View8088.{lengths8088, seen8088, storeSeen, Stored8088, store8088}
 use Rattle.memories.specs.declared.view8088.Seen.{Seen}
 use Rattle.memories.specs.declared.view8088.Seen.the-variants.{Shared, Screen, Attribute, Nowhere}
-use Rattle.memories.specs.ViewZ80.{isPrivate, lengthsZ80, seenZ80, StoredZ80, storeZ80, storedZ80}
+use Rattle.memories.specs.ViewZ80.{isPrivate, lengthsZ80, seenZ80, StoredZ80, storedZ80}
 use Rattle.memories.proofs.Laws.{lentZ80, placed}
 use Rattle.mending.specs.Store.{StoredWithPicture, refusalWithPicture, mendWithPicture, refuseWithPicture}
 use Rattle.runs.specs.World.{World, Call, Read8088, Store8088, ReadZ80, StoreZ80, ReadShadow, WriteShadow, WritePort, VerticalTick, Draw, StoreWithPicture, leftZ80, leftWithPicture, after, answer}
+use Rattle.runs.specs.Z80.{OnlyAt, ChangesOneByte, OnlyItsOwn, Agree, isZ80, outside, unseenByZ80, Both, First, Second, SameAnswers}
 use Rattle.runs.proofs.Choice.{either}
-use Rattle.runs.specs.Z80.{OnlyAt, ChangesOneByte, OnlyItsOwn, Agree, isZ80, outside, unseenByZ80, Turn, Both, First, Second, first, second, turned, heard, ended, answers, SameAnswers}
 
 -- an address that is not private is 0800 or more
 shared-from : (a : ℕ) → isPrivate a ≡ false → 0x0800 ≤ a

@@ -1,6 +1,6 @@
 -- What the calls act on, and what each call does to it, by the definition that the call's promise cites.
 use Prim.Native.Nat.{ℕ}
-use mathlib.Core.List.{List, [], _∷_}
+use mathlib.Core.List.{List}
 use Rattle.lent.specs.Refusals.{accepted}
 use Rattle.lent.specs.Answer.{readRefused}
 use Rattle.lent.specs.declared.ByteRead.{ByteRead}
@@ -8,8 +8,7 @@ use Rattle.machine.specs.declared.Machine.{Machine}
 use Rattle.machine.specs.Power.{verticalTick}
 use Rattle.memories.specs.View8088.{read8088, store8088, Stored8088}
 use Rattle.memories.specs.ViewZ80.{readZ80, storeZ80, StoredZ80}
-use Rattle.shadow.specs.Shadow.{readShadow, writeShadow, WrittenShadow}
-use Rattle.diagnostic.specs.Diagnostic.{WrittenPort}
+use Rattle.shadow.specs.Shadow.{readShadow, writeShadow}
 use Rattle.ports.specs.Ports.{writePort}
 use Rattle.picture.specs.Draw.{draw}
 use Rattle.mending.specs.Store.{storeWithPicture, StoredWithPicture}

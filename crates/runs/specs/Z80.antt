@@ -5,7 +5,7 @@ use mathlib.Core.List.{List, [], _∷_}
 use mathlib.Core.Bool.{Bool, true, false, not, cond, _&&_, _||_}
 use lib.ListN.{length, getD, take, drop}
 use lib.Dec.{eqb, ltb}
-use Rattle.lent.specs.Lengths.{sharedBytes, privateBytes}
+use Rattle.lent.specs.Lengths.{sharedBytes}
 use Rattle.lent.specs.declared.ByteRead.{ByteRead}
 use Rattle.memories.specs.ViewZ80.{isPrivate, lengthsZ80, storeZ80}
 use Rattle.runs.specs.World.{World, Call, Read8088, Store8088, ReadZ80, StoreZ80, ReadShadow, WriteShadow, WritePort, VerticalTick, Draw, StoreWithPicture, after, answer}

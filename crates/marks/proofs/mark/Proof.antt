@@ -1,8 +1,8 @@
-use lib.Pow.{shl-exact}
-use lib.Bits.{bitOr, or-shifted-r}
+use mathlib.Core.Path.{ap, _∙_}
 use native.Mathlib.Omega.{arith}
 use native.Mathlib.Nat.{add-comm, add-zero, zero-mul}
-use mathlib.Core.Path.{ap, _∙_}
+use lib.Pow.{shl-exact}
+use lib.Bits.{bitOr, or-shifted-r}
 use borrow.Author.Needs.{needs}
 use Rattle.marks.proofs.mark.Statement.{statement}
 use Rattle.marks.proofs.mark.Tie as tie

@@ -1,12 +1,12 @@
+use Prim.Native.Nat.{_-_}
+use mathlib.Core.Path.{_∙_}
+use native.Mathlib.Omega.{arith}
+use borrow.Author.Needs.{needs}
 use Rattle.marks.proofs.Laws.{marks-under}
 use Rattle.picture.proofs.Records.{record-lent}
 use Rattle.chain.proofs.Laws.{ahead-placed}
-use native.Mathlib.Omega.{arith}
-use mathlib.Core.Path.{_∙_}
-use Rattle.mending.proofs.Walk.{Mending, mend-begins, mend-goes-on, mend-ends}
 use Rattle.chain.specs.Chain.{chain, rows}
-use Prim.Native.Nat.{_-_}
-use borrow.Author.Needs.{needs}
+use Rattle.mending.proofs.Walk.{Mending, mend-begins, mend-goes-on, mend-ends}
 use Rattle.mending.proofs.mend.Statement.{statement}
 use Rattle.mending.proofs.mend.Tie as tie
 

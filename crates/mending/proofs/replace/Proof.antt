@@ -1,8 +1,8 @@
-use native.Mathlib.Omega.{arith}
-use Rattle.mending.proofs.Bytes.{Replaced, none-replaced, one-replaced, all-replaced}
-use Rattle.records.specs.Record.{recordBytes}
 use Prim.Native.Nat.{_-_}
+use native.Mathlib.Omega.{arith}
 use borrow.Author.Needs.{needs}
+use Rattle.records.specs.Record.{recordBytes}
+use Rattle.mending.proofs.Bytes.{Replaced, none-replaced, one-replaced, all-replaced}
 use Rattle.mending.proofs.replace.Statement.{statement}
 use Rattle.mending.proofs.replace.Tie as tie
 

@@ -1,10 +1,10 @@
-use Rattle.readers.proofs.Walk.{Seeking, none-found, seek-begins, seek-ends, seek-goes-on, seek-fails}
+use Prim.Native.Nat.{_-_}
+use mathlib.Core.Path.{sym, _∙_}
+use borrow.Author.Tests.{not-true}
+use borrow.Author.Needs.{needs}
 use Rattle.chain.proofs.Laws.{ahead-placed}
 use Rattle.chain.specs.Chain.{chain, rows}
-use borrow.Author.Tests.{not-true}
-use mathlib.Core.Path.{sym, _∙_}
-use Prim.Native.Nat.{_-_}
-use borrow.Author.Needs.{needs}
+use Rattle.readers.proofs.Walk.{Seeking, none-found, seek-begins, seek-ends, seek-goes-on, seek-fails}
 use Rattle.readers.proofs.first_reader.Statement.{statement}
 use Rattle.readers.proofs.first_reader.Tie as tie
 

@@ -1,9 +1,10 @@
-use Rattle.readers.proofs.Laws.{whole-fits}
-use Rattle.chain.proofs.Laws.{row-found}
-use Rattle.chain.specs.Reading.{screenRead, attributeRead}
-use Rattle.chain.specs.Chain.{chain}
+use Prim.Native.Nat.{_+_, _≤_}
 use native.Mathlib.Omega.{arith}
 use borrow.Author.Needs.{needs}
+use Rattle.chain.proofs.Laws.{row-found}
+use Rattle.chain.specs.Reading.{screenRead, attributeRead}
+use Rattle.chain.specs.Chain.{chain, places}
+use Rattle.readers.proofs.Laws.{whole-fits}
 use Rattle.readers.proofs.pass_row.Statement.{statement}
 use Rattle.readers.proofs.pass_row.Tie as tie
 
@@ -32,26 +33,23 @@ returns c =
     let is = f .before .capacity .ensures .0 in
     rw (row-found k (a .head) is (f .find-terminator .ensures), e .enum-told .given .1, c .torn-reads .ensures, is)
 
-whole-reads-requires : tie.Need-whole-reads-requires
-whole-reads-requires c κs =
+-- the row found has room for its link
+fits : (c : tie.After-known-told) → c .before .cells .given .0 .0 + 3 ≤ places
+fits c =
     let f = c .before .before .before in
     let p = f .before .before .before .before .pre in
-    let fits = whole-fits _ _ (f .find-terminator .ensures) (c .before .cells .given .1) (f .before .capacity .ensures .1) (p .1 .1 .0 .0) in
-    (p .1 .1 .1, (p .1 .1 .0 .1, fits))
+    whole-fits _ _ (f .find-terminator .ensures) (c .before .cells .given .1) (f .before .capacity .ensures .1) (p .1 .1 .0 .0)
+
+whole-reads-requires : tie.Need-whole-reads-requires
+whole-reads-requires c κs =
+    let p = c .before .before .before .before .before .before .before .pre in
+    (p .1 .1 .1, (p .1 .1 .0 .1, fits c))
 
 add-link : tie.Need-add-link
-add-link c =
-    let f = c .before .before .before .before in
-    let p = f .before .before .before .before .pre in
-    let fits = whole-fits _ _ (f .find-terminator .ensures) (c .before .before .cells .given .1) (f .before .capacity .ensures .1) (p .1 .1 .0 .0) in
-    omega (arith, fits)
+add-link c = omega (arith, fits (c .before))
 
 link-requires : tie.Need-link-requires
-link-requires c κs =
-    let f = c .before .before .before .before in
-    let p = f .before .before .before .before .pre in
-    let fits = whole-fits _ _ (f .find-terminator .ensures) (c .before .before .cells .given .1) (f .before .capacity .ensures .1) (p .1 .1 .0 .0) in
-    (p .0, (p .1 .0, omega (arith, fits, p .1 .1 .0 .1)))
+link-requires c κs = search (needs, fits (c .before))
 
 returns-2 : tie.Need-returns-2
 unfolding screenRead attributeRead

@@ -1,9 +1,9 @@
-use Rattle.readers.proofs.Laws.{among-from}
-use Rattle.readers.specs.Passed.{InMemory}
-use native.Mathlib.Omega.{arith}
-use mathlib.Core.Path.{sym, subst}
 use Prim.Native.Nat.{_+_}
+use mathlib.Core.Path.{sym, subst}
+use native.Mathlib.Omega.{arith}
 use borrow.Author.Needs.{needs}
+use Rattle.readers.specs.Passed.{InMemory}
+use Rattle.readers.proofs.Laws.{among-from}
 use Rattle.readers.proofs.torn_reads.Statement.{statement}
 use Rattle.readers.proofs.torn_reads.Tie as tie
 

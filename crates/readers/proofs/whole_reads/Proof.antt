@@ -1,13 +1,13 @@
-use Rattle.readers.proofs.Laws.{among-from, among-one, among-both}
-use Rattle.readers.specs.Passed.{InMemory}
-use borrow.Author.Tests.{lt-ltb, le-ltb}
-use lib.Dec.{ltb}
-use native.Mathlib.Omega.{arith}
-use native.Mathlib.Nat.{add-assoc}
+use Prim.Native.Nat.{_+_}
 use mathlib.Core.Bool.{true, false}
 use mathlib.Core.Path.{_≡_, sym, subst}
-use Prim.Native.Nat.{_+_}
+use native.Mathlib.Omega.{arith}
+use native.Mathlib.Nat.{add-assoc}
+use lib.Dec.{ltb}
+use borrow.Author.Tests.{lt-ltb, le-ltb}
 use borrow.Author.Needs.{needs}
+use Rattle.readers.specs.Passed.{InMemory}
+use Rattle.readers.proofs.Laws.{among-from, among-one, among-both}
 use Rattle.readers.proofs.whole_reads.Statement.{statement}
 use Rattle.readers.proofs.whole_reads.Tie as tie
 
