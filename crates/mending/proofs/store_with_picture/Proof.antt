@@ -34,29 +34,37 @@ first-reader-requires c κs =
     let k = s .before in
     let e = k .before in
     let a = e .before .before .before .before .before .before .args in
-    let lent = lent-with-picture _ _ _ _ (held (e .before .lengths-with-picture .ensures) (e .if1 .left)) in
-    let memories = lent8088 (lent .0) in
-    let fits : k .columns .result + 3 ≤ places = rw (k .columns .ensures) (omega (arith, columns-fit (a .machine))) in
-    (memories .1 .0, (memories .1 .1, (fits, in-memory (a .address) (s .seen-8088 .ensures))))
+    let lent = lent8088 (lent-with-picture _ _ _ _ (held (e .before .lengths-with-picture .ensures) (e .if1 .left)) .0) in
+    let wide : k .columns .result + 3 ≤ places = rw (k .columns .ensures) (omega (arith, columns-fit (a .machine))) in
+    (lent .1 .0, (lent .1 .1, (wide, in-memory (a .address) (s .seen-8088 .ensures))))
 
 store-8088-requires : tie.Need-store-8088-requires
 store-8088-requires c κs = search needs
 
+-- the steps before the mending
+abbrev stored : tie.After-mend-arg3 → tie.After-store-8088
+stored c = c .before .before .before .before .before .before .before .before .before
+
+abbrev found : tie.After-mend-arg3 → tie.After-first-reader
+found c = c .before .before .before .before .before .before .before .before .before .before .before .before .before
+
+abbrev seen : tie.After-mend-arg3 → tie.After-seen-8088
+seen c = found c .before .before .before
+
 mend-requires : tie.Need-mend-requires
 mend-requires c κs =
-    let r = c .before .before .before .before .before .before .before .before .before in
-    let f = r .before .before .before .before in
-    let s = f .before .before .before in
+    let s = seen c in
     let k = s .before in
     let e = k .before in
     let a = e .before .before .before .before .before .before .args in
     let lent = lent-with-picture _ _ _ _ (held (e .before .lengths-with-picture .ensures) (e .if1 .left)) in
     let memories = lent8088 (lent .0) in
     let wide : k .columns .result ≤ recordPairs = rw (k .columns .ensures) (columns-fit (a .machine)) in
-    let found = f .first-reader .ensures in
-    let within : f .first-reader .result .row ≤ rows = rw (found .first) (is-first _ _ .0) in
-    let comes = comes-stored (k .columns .result) (a .shared .now) _ _ (a .address) (a .byte) (lent .0) (r .store-8088 .ensures) (s .seen-8088 .ensures) found in
-    (r .store-8088 .kept .1 .0 ∙ memories .1 .0, (r .store-8088 .kept .1 .1 .0 ∙ memories .1 .1, (eqb-true _ _ (lent .1), ((wide, within), comes))))
+    let first = found c .first-reader .ensures in
+    let within : found c .first-reader .result .row ≤ rows = rw (first .first) (is-first _ _ .0) in
+    let left = stored c .store-8088 in
+    let comes = comes-stored _ (a .shared .now) _ _ _ _ (lent .0) (left .ensures) (s .seen-8088 .ensures) first in
+    (left .kept .1 .0 ∙ memories .1 .0, (left .kept .1 .1 .0 ∙ memories .1 .1, (eqb-true _ _ (lent .1), ((wide, within), comes))))
 
 same-length : tie.Need-same-length
 same-length c = search needs
@@ -73,15 +81,15 @@ same-length-4 c = search needs
 returns-2 : tie.Need-returns-2
 returns-2 c =
     let m = c .before .before in
-    let r = m .before .before .before .before .before .before .before .before .before .before in
-    let f = r .before .before .before .before in
-    let s = f .before .before .before in
+    let s = seen (m .before) in
     let k = s .before in
     let e = k .before in
     let a = e .before .before .before .before .before .before .args in
     let right = held (e .before .lengths-with-picture .ensures) (e .if1 .left) in
-    outcome (a .machine) (a .shared .now) _ _ _ (a .address) (a .byte) right (k .columns .ensures) (s .seen-8088 .ensures)
-    (f .first-reader .ensures .first) (r .store-8088 .ensures) (m .mend .ensures)
+    let first = found (m .before) .first-reader .ensures .first in
+    let left = stored (m .before) .store-8088 .ensures in
+    outcome (a .machine) (a .shared .now) (a .screen .now) (a .attribute .now) (a .picture .now) (a .address) (a .byte) right (k .columns .ensures)
+    (s .seen-8088 .ensures) first left (m .mend .ensures)
 
 pub store-with-picture-spec : {M : Type 1} → statement M
 store-with-picture-spec =

@@ -1,4 +1,5 @@
 use Prim.Native.Nat.{_+_, _≤_}
+use mathlib.Core.Path.{refl}
 use native.Mathlib.Omega.{arith}
 use borrow.Author.Needs.{needs}
 use Rattle.chain.proofs.Laws.{row-found}
@@ -52,14 +53,14 @@ link-requires : tie.Need-link-requires
 link-requires c κs = search (needs, fits (c .before))
 
 returns-2 : tie.Need-returns-2
-unfolding screenRead attributeRead
+unfolding attributeRead screenRead
 returns-2 c =
     let t = c .before .before in
     let f = t .before .before .before in
     let a = f .before .before .before .before .args in
     let k = chain (a .columns) (a .screen .now) (a .attribute .now) in
     let is = f .before .capacity .ensures .0 in
-    rw (row-found k (a .head) is (f .find-terminator .ensures), t .before .cells .given .1, c .before .whole-reads .ensures, c .link .ensures)
+    rw (row-found k (a .head) is (f .find-terminator .ensures), t .before .cells .given .1, c .before .whole-reads .ensures, c .link .ensures) refl
 
 pub pass-row-spec : {M : Type 1} → statement M
 pass-row-spec =
