@@ -1,8 +1,9 @@
 -- Laws about the places that a row reads: how far a place lies from the row's start tells whether it is one of them.
-use Prim.Native.Nat.{ℕ, zero, suc, _+_, _%_, _≤_, _<_}
+use Prim.Native.Nat.{ℕ, zero, suc, _+_, _-_, _%_, _≤_, _<_}
 use mathlib.Core.Path.{_≡_, refl, sym, _∙_, ap}
 use mathlib.Core.List.{List, [], _∷_, _++_}
 use mathlib.Core.Bool.{Bool, true, false, cond, _||_, true≢false}
+use native.Mathlib.Nat.{mod-mod}
 use native.Mathlib.Omega.{arith}
 use lib.Dec.{eqb, ltb}
 use borrow.Author.Tests.{lt-ltb, le-ltb, eq-eqb, ne-eqb, eqb-true, eqb-false}
@@ -14,7 +15,10 @@ use Rattle.chain.specs.declared.Terminator.{Terminator}
 use Rattle.chain.specs.declared.Terminator.the-variants.{After}
 use Rattle.chain.proofs.Laws.{found-within}
 use Rattle.readers.specs.Readers.{among, readsByte}
-use Rattle.readers.specs.Passed.{offset}
+
+-- how many bytes after a start a place comes
+abbrev pub offset : (place start : ℕ) → ℕ
+offset place start = (place + places - start) % places
 
 module _ (place start : ℕ) (lies : place < places) (begins : start < places) where
   -- a place `bytes` after the start is the one that lies as far from it
@@ -57,15 +61,10 @@ module _ (place start : ℕ) (lies : place < places) (begins : start < places) w
       let all : 0 + n ≡ n = omega arith in
       from-on n start 0 (omega arith) (omega arith) (omega arith) ∙ ap (ltb (offset place start)) all
 
-  pub among-one : (bytes : ℕ) → bytes < places → among place (from (start + bytes) 1) ≡ eqb (offset place start) bytes
-  unfolding among from
-  among-one bytes under = go (eqb place ((start + bytes) % places)) refl
-    where
-      go :
-          (b : Bool) → eqb place ((start + bytes) % places) ≡ b
-          → among place (from (start + bytes) 1) ≡ eqb (offset place start) bytes
-      go true h = rw h (sym (same-offset (start + bytes) bytes refl under true h))
-      go false h = rw h (sym (same-offset (start + bytes) bytes refl under false h))
+-- a place beyond the last is the place modulo 4,096
+pub from-over : (place : ℕ) → from (place % places) 1 ≡ from place 1
+unfolding from
+from-over place = rw (mod-mod place places)
 
 pub among-both : (place : ℕ) (first second : List ℕ) → among place (first ++ second) ≡ (among place first || among place second)
 unfolding among

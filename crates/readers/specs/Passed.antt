@@ -1,19 +1,15 @@
 -- What the functions of the walk that draws nothing promise.
-use Prim.Native.Nat.{ℕ, _+_, _-_, _%_, _<_}
+use Prim.Native.Nat.{_-_, _<_}
 use mathlib.Core.Path.{_≡_}
 use Rattle.lent.specs.Lengths.{screenBytes, attributeBytes}
 use Rattle.memories.specs.declared.view8088.Seen.{Seen}
 use Rattle.memories.specs.declared.view8088.Seen.the-variants.{Shared, Screen, Attribute, Nowhere}
-use Rattle.chain.specs.Chain.{Chain, places, rows}
+use Rattle.chain.specs.Chain.{Chain, rows}
 use Rattle.chain.specs.Ahead.{rowAhead, aheadAfter, aheadOf}
 use Rattle.chain.specs.declared.Ahead.{Ahead}
 use Rattle.readers.specs.Readers.{rowReads, firstReader}
 use Rattle.readers.specs.declared.Passed.{Passed}
 use Rattle.readers.specs.declared.Reader.{Reader}
-
--- how many bytes after a start a place comes
-abbrev pub offset : (place start : ℕ) → ℕ
-offset place start = (place + places - start) % places
 
 -- the place of screen or attribute memory lies in it
 abbrev pub InMemory : Seen → Type 0

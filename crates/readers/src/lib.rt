@@ -8,8 +8,8 @@ ghost use Rattle.lent.specs.Lengths.{screenBytes, attributeBytes};
 ghost use Rattle.chain.specs.Chain.{chain, places};
 ghost use Rattle.chain.specs.Reading.{from};
 ghost use Rattle.chain.specs.Ahead.{Placed};
-ghost use Rattle.readers.specs.Readers.{readsByte, onScreen};
-ghost use Rattle.readers.specs.Passed.{offset, InMemory, passed, Found};
+ghost use Rattle.readers.specs.Readers.{among, readsByte, onScreen};
+ghost use Rattle.readers.specs.Passed.{InMemory, passed, Found};
 use chain::Ahead;
 use chain::Head;
 use chain::Terminator;
@@ -27,12 +27,12 @@ struct Passed {
     next: Ahead,
 }
 
-// How many bytes after a row's start a place comes.
-fn offset(place: usize, start: usize) -> usize
-    requires { ⌜ (place < places) × (start < places) ⌝ }
-    ensures { λ r. ⌜ r ≡ offset place start ⌝ }
+// Whether a place is one of so many from a start on.
+fn among(place: usize, start: usize, bytes: usize) -> bool
+    requires { ⌜ (place < places) × ((start < places) × (bytes ≤ places)) ⌝ }
+    ensures { λ r. ⌜ r ≡ among place (from start bytes) ⌝ }
 {
-    (place + lent::SCREEN_BYTES - start) % lent::SCREEN_BYTES
+    (place + lent::SCREEN_BYTES - start) % lent::SCREEN_BYTES < bytes
 }
 
 // A whole row reads its cells, FF and the link, and beside the cells and the low byte of the link.
@@ -41,10 +41,10 @@ fn whole_reads(seen: Seen, start: usize, cells: usize) -> bool
     ensures { λ r. ⌜ r ≡ readsByte seen (from start (cells + 3)) (from start cells ++ from (start + cells + 1) 1) ⌝ }
 {
     match seen {
-        Seen::Screen(place) => offset(place, start) < cells + 3,
+        Seen::Screen(place) => among(place, start, cells + 3),
         Seen::Attribute(place) => {
-            let after = offset(place, start);
-            after < cells || after == cells + 1
+            let low = (start + cells + 1) % lent::SCREEN_BYTES;
+            among(place, start, cells) || among(place, low, 1)
         }
         Seen::Shared(_) => false,
         Seen::Nowhere => false,
@@ -57,8 +57,8 @@ fn torn_reads(seen: Seen, start: usize, capacity: usize) -> bool
     ensures { λ r. ⌜ r ≡ readsByte seen (from start (capacity + 1)) (from start capacity) ⌝ }
 {
     match seen {
-        Seen::Screen(place) => offset(place, start) < capacity + 1,
-        Seen::Attribute(place) => offset(place, start) < capacity,
+        Seen::Screen(place) => among(place, start, capacity + 1),
+        Seen::Attribute(place) => among(place, start, capacity),
         Seen::Shared(_) => false,
         Seen::Nowhere => false,
     }

@@ -1,30 +1,28 @@
-use Prim.Native.Nat.{_+_}
-use mathlib.Core.Path.{sym, subst}
+use mathlib.Core.Path.{subst}
 use native.Mathlib.Omega.{arith}
 use borrow.Author.Needs.{needs}
 use Rattle.readers.specs.Passed.{InMemory}
-use Rattle.readers.proofs.Laws.{among-from}
 use Rattle.readers.proofs.torn_reads.Statement.{statement}
 use Rattle.readers.proofs.torn_reads.Tie as tie
 
 enum-known-seen : tie.Need-enum-known-seen
 enum-known-seen c = search needs
 
-offset-requires : tie.Need-offset-requires
-offset-requires c κs =
-    let s = c .before .before .before in
-    (subst InMemory (c .before .seen .given .1) (s .pre .0), s .pre .1 .0)
+add-among : tie.Need-add-among
+add-among c = search needs
 
-add-result : tie.Need-add-result
-add-result c = search needs
+among-requires : tie.Need-among-requires
+among-requires c κs =
+    let s = c .before .before .before in
+    (subst InMemory (c .before .seen .given .1) (s .pre .0), (s .pre .1 .0, omega arith))
 
 enum-known-seen-2 : tie.Need-enum-known-seen-2
 enum-known-seen-2 c = search needs
 
-offset-requires-2 : tie.Need-offset-requires-2
-offset-requires-2 c κs =
+among-requires-2 : tie.Need-among-requires-2
+among-requires-2 c κs =
     let s = c .before .before .before in
-    (subst InMemory (c .before .seen2 .given .1) (s .pre .0), s .pre .1 .0)
+    (subst InMemory (c .before .seen2 .given .1) (s .pre .0), (s .pre .1 .0, omega arith))
 
 enum-told : tie.Need-enum-told
 enum-told c = search needs
@@ -33,20 +31,10 @@ enum-told-2 : tie.Need-enum-told-2
 enum-told-2 c = search needs
 
 returns : tie.Need-returns
-returns c =
-    let t = c .before .before in
-    let s = t .before .before in
-    let place = t .seen .given .0 .0 in
-    let lies = subst InMemory (t .seen .given .1) (s .pre .0) in
-    rw (t .seen .given .1, c .offset .ensures) (sym (among-from place (s .args .start) lies (s .pre .1 .0) (s .args .capacity + 1) (s .pre .1 .1)))
+returns c = rw (c .before .before .seen .given .1) (c .among .ensures)
 
 returns-2 : tie.Need-returns-2
-returns-2 c =
-    let t = c .before .before in
-    let s = t .before .before in
-    let place = t .seen2 .given .0 .0 in
-    let lies = subst InMemory (t .seen2 .given .1) (s .pre .0) in
-    rw (t .seen2 .given .1, c .offset2 .ensures) (sym (among-from place (s .args .start) lies (s .pre .1 .0) (s .args .capacity) (omega arith)))
+returns-2 c = rw (c .before .before .seen2 .given .1) (c .among2 .ensures)
 
 returns-3 : tie.Need-returns-3
 returns-3 c = rw (c .enum-told .given .1)
@@ -59,10 +47,10 @@ torn-reads-spec =
     tie.close
     (tie.spec
     enum-known-seen
-    offset-requires
-    add-result
+    add-among
+    among-requires
     enum-known-seen-2
-    offset-requires-2
+    among-requires-2
     enum-told
     enum-told-2
     returns

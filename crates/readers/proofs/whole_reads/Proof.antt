@@ -1,37 +1,41 @@
-use Prim.Native.Nat.{_+_}
-use mathlib.Core.Bool.{true, false}
-use mathlib.Core.Path.{_≡_, sym, subst}
+use mathlib.Core.Path.{subst}
 use native.Mathlib.Omega.{arith}
-use native.Mathlib.Nat.{add-assoc}
-use lib.Dec.{ltb}
-use borrow.Author.Tests.{lt-ltb, le-ltb}
+use native.Mathlib.Nat.{mod-lt}
 use borrow.Author.Needs.{needs}
 use Rattle.readers.specs.Passed.{InMemory}
-use Rattle.readers.proofs.Laws.{among-from, among-one, among-both}
+use Rattle.readers.proofs.Laws.{among-both, from-over}
 use Rattle.readers.proofs.whole_reads.Statement.{statement}
 use Rattle.readers.proofs.whole_reads.Tie as tie
 
 enum-known-seen : tie.Need-enum-known-seen
 enum-known-seen c = search needs
 
-offset-requires : tie.Need-offset-requires
-offset-requires c κs =
-    let s = c .before .before .before in
-    (subst InMemory (c .before .seen .given .1) (s .pre .0), s .pre .1 .0)
+add-among : tie.Need-add-among
+add-among c = search needs
 
-add-result : tie.Need-add-result
-add-result c = search needs
+among-requires : tie.Need-among-requires
+among-requires c κs =
+    let s = c .before .before .before in
+    (subst InMemory (c .before .seen .given .1) (s .pre .0), (s .pre .1 .0, omega arith))
 
 enum-known-seen-2 : tie.Need-enum-known-seen-2
 enum-known-seen-2 c = search needs
 
-offset-requires-2 : tie.Need-offset-requires-2
-offset-requires-2 c κs =
-    let s = c .before .before .before in
-    (subst InMemory (c .before .seen2 .given .1) (s .pre .0), s .pre .1 .0)
+add-low : tie.Need-add-low
+add-low c = search needs
 
-add-result-2 : tie.Need-add-result-2
-add-result-2 c = search needs
+add-low-2 : tie.Need-add-low-2
+add-low-2 c = search needs
+
+among-requires-2 : tie.Need-among-requires-2
+among-requires-2 c κs =
+    let s = c .before .before .before in
+    (subst InMemory (c .before .seen2 .given .1) (s .pre .0), (s .pre .1 .0, omega arith))
+
+among-requires-3 : tie.Need-among-requires-3
+among-requires-3 c κs =
+    let t = c .before .before .before in
+    (subst InMemory (t .seen2 .given .1) (t .before .before .pre .0), (mod-lt _ (omega arith), omega arith))
 
 enum-told : tie.Need-enum-told
 enum-told c = search needs
@@ -40,39 +44,17 @@ enum-told-2 : tie.Need-enum-told-2
 enum-told-2 c = search needs
 
 returns : tie.Need-returns
-returns c =
-    let t = c .before .before in
-    let s = t .before .before in
-    let place = t .seen .given .0 .0 in
-    let lies = subst InMemory (t .seen .given .1) (s .pre .0) in
-    rw (t .seen .given .1, c .offset .ensures) (sym (among-from place (s .args .start) lies (s .pre .1 .0) (s .args .cells + 3) (s .pre .1 .1)))
+returns c = rw (c .before .before .seen .given .1) (c .among .ensures)
 
 returns-2 : tie.Need-returns-2
 returns-2 c =
     let o = c .before in
-    let t = o .before .before in
-    let s = t .before .before in
-    let place = t .seen2 .given .0 .0 in
-    let start = s .args .start in
-    let cells = s .args .cells in
-    let lies = subst InMemory (t .seen2 .given .1) (s .pre .0) in
-    let near : ltb (o .offset2 .result) cells ≡ true = lt-ltb _ _ (c .if1 .taken) in
-    let cell = among-from place start lies (s .pre .1 .0) cells (omega arith) in
-    rw (t .seen2 .given .1, among-both, cell, ← o .offset2 .ensures, near)
+    rw (o .before .before .seen2 .given .1, among-both, ← o .among2 .ensures, c .if1 .taken)
 
 returns-3 : tie.Need-returns-3
 returns-3 c =
-    let o = c .before in
-    let t = o .before .before in
-    let s = t .before .before in
-    let place = t .seen2 .given .0 .0 in
-    let start = s .args .start in
-    let cells = s .args .cells in
-    let lies = subst InMemory (t .seen2 .given .1) (s .pre .0) in
-    let near : ltb (o .offset2 .result) cells ≡ false = le-ltb _ _ (c .if1 .left) in
-    let cell = among-from place start lies (s .pre .1 .0) cells (omega arith) in
-    let link = among-one place start lies (s .pre .1 .0) (cells + 1) (omega arith) in
-    rw (t .seen2 .given .1, among-both, cell, add-assoc start cells 1, link, ← o .offset2 .ensures, near)
+    let o = c .before .before in
+    rw (o .before .before .seen2 .given .1, among-both, ← o .among2 .ensures, c .before .if1 .left, ← from-over) (c .among3 .ensures)
 
 returns-4 : tie.Need-returns-4
 returns-4 c = rw (c .enum-told .given .1)
@@ -85,11 +67,13 @@ whole-reads-spec =
     tie.close
     (tie.spec
     enum-known-seen
-    offset-requires
-    add-result
+    add-among
+    among-requires
     enum-known-seen-2
-    offset-requires-2
-    add-result-2
+    add-low
+    add-low-2
+    among-requires-2
+    among-requires-3
     enum-told
     enum-told-2
     returns
