@@ -9,8 +9,8 @@ use Rattle.chain.specs.Reading.{reads, readsTo, from, screenRead, attributeRead
 use Rattle.records.specs.Record.{cellPairs, fillPairs, recordOf}
 use Rattle.picture.specs.Picture.{inOrder, recordIn}
 use Rattle.picture.specs.Draw.{lengthsPicture}
-use Rattle.readers.specs.Readers.{among, firstFrom}
 use Rattle.marks.specs.Marks.{bitSet, marksTo}
+use Rattle.readers.specs.Readers.{among, firstFrom}
 use Rattle.mending.specs.Mending.{sameBytes}
 use Rattle.cases.specs.Said.{Said, Case, differ}
 use Rattle.cases.specs.Screens.{alikeFrom, alike, drawnFrom, rowsOf, drawnAll, memory, byteOfRow, startOfRow, countOfRow}

@@ -13,9 +13,9 @@ use Rattle.chain.specs.Chain.{rows}
 use Rattle.picture.specs.Picture.{recordIn}
 use Rattle.picture.specs.Draw.{chainOf}
 use Rattle.picture.proofs.Laws.{columns-fit}
-use Rattle.readers.specs.Readers.{firstReader}
 use Rattle.marks.specs.Marks.{bitSet}
 use Rattle.marks.proofs.Marks.{bit-by-bit}
+use Rattle.readers.specs.Readers.{firstReader}
 use Rattle.mending.specs.Mending.{sameBytes, changed, marksOf}
 use Rattle.mending.specs.Store.{lengthsWithPicture, StoredWithPicture, storeWithPicture}
 use Rattle.mending.specs.Changes.{LeavesAhead, MarksTheChanged}

@@ -11,8 +11,8 @@ use lib.Dec.{eqb}
 use borrow.Author.Tests.{lt-ltb, eqb-true}
 use Rattle.lent.specs.Lengths.{pictureBytes}
 use Rattle.lent.specs.Refusals.{lengthRefused}
-use Rattle.machine.specs.declared.Machine.{Machine}
 use Rattle.machine.specs.Settings.{columns}
+use Rattle.machine.specs.declared.Machine.{Machine}
 use Rattle.memories.specs.View8088.{lengths8088, seen8088, Stored8088, stored8088, store8088}
 use Rattle.memories.specs.declared.view8088.Seen.{Seen}
 use Rattle.memories.specs.declared.view8088.Seen.the-variants.{Shared, Screen, Attribute, Nowhere}
@@ -22,13 +22,13 @@ use Rattle.chain.proofs.Alike.{rows-are-what-they-read}
 use Rattle.picture.specs.Picture.{recordIn}
 use Rattle.picture.specs.Draw.{chainOf}
 use Rattle.picture.proofs.Records.{same-records, own-records}
+use Rattle.marks.proofs.Laws.{none-marked}
 use Rattle.readers.specs.Readers.{firstReader}
 use Rattle.readers.specs.Passed.{InMemory, Comes, Found}
 use Rattle.readers.specs.Stored.{chainStored}
 use Rattle.readers.specs.declared.Reader.{Reader}
 use Rattle.readers.proofs.Readers.{none-off-screen, is-first}
 use Rattle.readers.proofs.Stored.{unread-leaves}
-use Rattle.marks.proofs.Laws.{none-marked}
 use Rattle.mending.specs.Mending.{mendedRecord, mended, changed, marksOf}
 use Rattle.mending.specs.Store.{lengthsWithPicture, storedWithPicture, storeWithPicture}
 use Rattle.mending.proofs.Same.{same-self}

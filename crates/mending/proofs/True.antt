@@ -9,8 +9,8 @@ use lib.Seq.{set-getD}
 use lib.Dec.{ltb}
 use borrow.Author.Tests.{ltb-true, eqb-true}
 use Rattle.lent.specs.Answer.{byteRead}
-use Rattle.lent.specs.declared.ByteRead.{ByteRead}
 use Rattle.lent.specs.Lengths.{pictureBytes}
+use Rattle.lent.specs.declared.ByteRead.{ByteRead}
 use Rattle.machine.specs.declared.Machine.{Machine}
 use Rattle.memories.specs.View8088.{seen8088, byteSeen, storeSeen, store8088}
 use Rattle.memories.specs.declared.view8088.Seen.{Seen}

@@ -9,8 +9,8 @@ use Rattle.memories.specs.View8088.{seen8088}
 use Rattle.chain.specs.Chain.{rows}
 use Rattle.picture.specs.Picture.{recordIn}
 use Rattle.picture.specs.Draw.{chainOf}
-use Rattle.readers.specs.Readers.{firstReader}
 use Rattle.marks.specs.Marks.{bitSet}
+use Rattle.readers.specs.Readers.{firstReader}
 use Rattle.mending.specs.Store.{storeWithPicture}
 
 abbrev pub LeavesAhead : Type 0

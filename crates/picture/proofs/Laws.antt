@@ -4,10 +4,10 @@ use mathlib.Core.Path.{_≡_}
 use mathlib.Core.Bool.{Bool, true, false, cond}
 use native.Mathlib.Omega.{arith}
 use Rattle.lent.specs.Lengths.{screenBytes, attributeBytes, pictureBytes}
-use Rattle.machine.specs.declared.Machine.{Machine}
-use Rattle.machine.specs.Settings.{columns}
-use Rattle.records.specs.Record.{recordPairs}
 use Rattle.lent.proofs.Tests.{three-equal}
+use Rattle.machine.specs.Settings.{columns}
+use Rattle.machine.specs.declared.Machine.{Machine}
+use Rattle.records.specs.Record.{recordPairs}
 use Rattle.picture.specs.Draw.{lengthsPicture}
 
 -- the lengths are those of the list where the test holds

@@ -6,9 +6,9 @@ use native.Mathlib.Omega.{arith}
 use lib.ListN.{length, length-append}
 use Rattle.chain.specs.Chain.{Chain, Row, Whole, Torn, Dark, rows, rowAt}
 use Rattle.chain.specs.Reading.{reads}
-use Rattle.records.specs.Record.{cellPairs, fillPairs, cellsShown, recordOf}
 use Rattle.chain.proofs.Laws.{capacity-within}
 use Rattle.chain.proofs.Reading.{reads-at}
+use Rattle.records.specs.Record.{cellPairs, fillPairs, cellsShown, recordOf}
 use Rattle.picture.specs.Picture.{recordAt}
 use Rattle.picture.specs.Sizes.{RecordsSized, PictureSized}
 use Rattle.picture.proofs.Records.{records-length}

@@ -6,8 +6,8 @@ use lib.ListN.{length}
 use lib.Dec.{eqb}
 use Rattle.lent.specs.Lengths.{screenBytes, attributeBytes, pictureBytes}
 use Rattle.lent.specs.Refusals.{accepted, lengthRefused}
-use Rattle.machine.specs.declared.Machine.{Machine}
 use Rattle.machine.specs.Settings.{columns}
+use Rattle.machine.specs.declared.Machine.{Machine}
 use Rattle.chain.specs.Chain.{Chain, chain}
 use Rattle.chain.specs.Reading.{walkReads}
 use Rattle.picture.specs.Picture.{pictureOf}

@@ -8,7 +8,8 @@ use borrow.Author.Tests.{eqb-true, eqb-false}
 use Rattle.memories.specs.declared.view8088.Seen.{Seen}
 use Rattle.memories.specs.declared.view8088.Seen.the-variants.{Shared, Screen, Attribute, Nowhere}
 use Rattle.chain.specs.Chain.{Chain, Row, rows, rowAt}
-use Rattle.readers.specs.Readers.{rowReads, firstFrom, onScreen, IsFirst}
+use Rattle.readers.specs.Readers.{rowReads, firstFrom, IsFirst}
+use Rattle.readers.specs.Passed.{onScreen}
 
 module _ (c : Chain) (seen : Seen) where
   off-screen : onScreen seen ≡ false → (row : Row) → rowReads c seen row ≡ false

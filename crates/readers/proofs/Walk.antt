@@ -10,8 +10,8 @@ use Rattle.chain.specs.Ahead.{rowAhead, aheadOf}
 use Rattle.chain.specs.declared.Ahead.{Ahead}
 use Rattle.chain.specs.declared.Ahead.the-variants.{Row}
 use Rattle.chain.proofs.Laws.{ahead-leads}
-use Rattle.readers.specs.Readers.{rowReads, firstFrom, firstReader, onScreen}
-use Rattle.readers.specs.Passed.{passed, Found}
+use Rattle.readers.specs.Readers.{rowReads, firstFrom, firstReader}
+use Rattle.readers.specs.Passed.{onScreen, passed, Found}
 use Rattle.readers.specs.declared.Passed.{Passed}
 use Rattle.readers.proofs.Readers.{none-off-screen}
 

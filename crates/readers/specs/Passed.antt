@@ -1,6 +1,7 @@
 -- What the functions of the walk that draws nothing promise.
-use Prim.Native.Nat.{_-_, _<_}
+use Prim.Native.Nat.{_<_}
 use mathlib.Core.Path.{_≡_}
+use mathlib.Core.Bool.{Bool, true, false}
 use Rattle.lent.specs.Lengths.{screenBytes, attributeBytes}
 use Rattle.memories.specs.declared.view8088.Seen.{Seen}
 use Rattle.memories.specs.declared.view8088.Seen.the-variants.{Shared, Screen, Attribute, Nowhere}
@@ -17,6 +18,13 @@ InMemory (Shared place) = Unit {0}
 InMemory (Screen place) = place < screenBytes
 InMemory (Attribute place) = place < attributeBytes
 InMemory Nowhere = Unit {0}
+
+-- a row can read only what is on the screen
+abbrev pub onScreen : Seen → Bool
+onScreen (Shared place) = false
+onScreen (Screen place) = true
+onScreen (Attribute place) = true
+onScreen Nowhere = false
 
 -- whether the row that lies ahead reads the byte, and what it leads to
 abbrev pub passed : Chain → Seen → Ahead → Passed

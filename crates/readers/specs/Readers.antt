@@ -36,13 +36,6 @@ firstFrom c seen row (suc more) =
 abbrev pub firstReader : Chain → Seen → ℕ
 firstReader c seen = firstFrom c seen 0 rows
 
--- a row can read only what is on the screen
-abbrev pub onScreen : Seen → Bool
-onScreen (Shared place) = false
-onScreen (Screen place) = true
-onScreen (Attribute place) = true
-onScreen Nowhere = false
-
 -- the first reader reads the byte, and no row ahead of it does; it is one of the rows, or no row reads the byte
 abbrev pub IsFirst : Type 0
 IsFirst =

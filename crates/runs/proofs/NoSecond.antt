@@ -22,11 +22,11 @@ use Rattle.diagnostic.specs.Diagnostic.{writtenPort}
 use Rattle.ports.proofs.write_port.Reads as write-port
 use Rattle.picture.specs.Draw.{drawn}
 use Rattle.picture.proofs.draw.Reads as draw
+use Rattle.listing.specs.Listing.{listed}
+use Rattle.listing.proofs.list_rows.Reads as list-rows
 use Rattle.marks.proofs.is_marked.Reads as is-marked
 use Rattle.mending.specs.Store.{storedWithPicture}
 use Rattle.mending.proofs.store_with_picture.Reads as store-with-picture
-use Rattle.listing.specs.Listing.{listed}
-use Rattle.listing.proofs.list_rows.Reads as list-rows
 
 pub no-second : {A : Type 0} {promised one other : A} → one ≡ promised → other ≡ promised → one ≡ other
 no-second p q = p ∙ sym q

@@ -9,13 +9,13 @@ use lib.Dec.{eqb, leb}
 use Rattle.lent.specs.Lengths.{shadowBytes}
 use Rattle.lent.specs.Refusals.{accepted}
 use Rattle.lent.specs.declared.ByteRead.{ByteRead}
+use Rattle.machine.specs.Written.{done}
 use Rattle.machine.specs.declared.Machine.{Machine}
 use Rattle.machine.specs.declared.Written.{Written}
-use Rattle.machine.specs.Written.{done}
 use Rattle.memories.specs.View8088.{lengths8088, seen8088, byteSeen, Stored8088, storeSeen}
+use Rattle.memories.specs.ViewZ80.{lengthsZ80, isPrivate, StoredZ80}
 use Rattle.memories.specs.declared.view8088.Seen.{Seen}
 use Rattle.memories.specs.declared.view8088.Seen.the-variants.{Shared, Screen, Attribute, Nowhere}
-use Rattle.memories.specs.ViewZ80.{lengthsZ80, isPrivate, StoredZ80}
 use Rattle.shadow.specs.Shadow.{WrittenShadow, lastPlace}
 use Rattle.dc011.specs.Dc011.{writeDc011}
 use Rattle.dc012.specs.Dc012.{writeDc012}

@@ -12,9 +12,9 @@ use Rattle.lent.specs.Lengths.{sharedBytes, privateBytes}
 use Rattle.lent.specs.Refusals.{accepted}
 use Rattle.lent.specs.Answer.{readRefused}
 use Rattle.memories.specs.View8088.{lengths8088, seen8088, storeSeen, Stored8088, store8088}
+use Rattle.memories.specs.ViewZ80.{isPrivate, lengthsZ80, seenZ80, StoredZ80, storedZ80}
 use Rattle.memories.specs.declared.view8088.Seen.{Seen}
 use Rattle.memories.specs.declared.view8088.Seen.the-variants.{Shared, Screen, Attribute, Nowhere}
-use Rattle.memories.specs.ViewZ80.{isPrivate, lengthsZ80, seenZ80, StoredZ80, storedZ80}
 use Rattle.memories.proofs.Laws.{lentZ80, placed}
 use Rattle.mending.specs.Store.{StoredWithPicture, refusalWithPicture, mendWithPicture, refuseWithPicture}
 use Rattle.runs.specs.World.{World, Call, Read8088, Store8088, ReadZ80, StoreZ80, ReadShadow, WriteShadow, WritePort, VerticalTick, Draw, StoreWithPicture, leftZ80, leftWithPicture, after, answer}

@@ -4,8 +4,8 @@ use mathlib.Core.List.{List}
 use Rattle.lent.specs.Refusals.{accepted}
 use Rattle.lent.specs.Answer.{readRefused}
 use Rattle.lent.specs.declared.ByteRead.{ByteRead}
-use Rattle.machine.specs.declared.Machine.{Machine}
 use Rattle.machine.specs.Power.{verticalTick}
+use Rattle.machine.specs.declared.Machine.{Machine}
 use Rattle.memories.specs.View8088.{read8088, store8088, Stored8088}
 use Rattle.memories.specs.ViewZ80.{readZ80, storeZ80, StoredZ80}
 use Rattle.shadow.specs.Shadow.{readShadow, writeShadow}

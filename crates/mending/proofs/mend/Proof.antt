@@ -2,10 +2,10 @@ use Prim.Native.Nat.{_-_}
 use mathlib.Core.Path.{_∙_}
 use native.Mathlib.Omega.{arith}
 use borrow.Author.Needs.{needs}
-use Rattle.marks.proofs.Laws.{marks-under}
-use Rattle.picture.proofs.Records.{record-lent}
-use Rattle.chain.proofs.Laws.{ahead-placed}
 use Rattle.chain.specs.Chain.{chain, rows}
+use Rattle.chain.proofs.Laws.{ahead-placed}
+use Rattle.picture.proofs.Records.{record-lent}
+use Rattle.marks.proofs.Laws.{marks-under}
 use Rattle.mending.proofs.Walk.{Mending, mend-begins, mend-goes-on, mend-ends}
 use Rattle.mending.proofs.mend.Statement.{statement}
 use Rattle.mending.proofs.mend.Tie as tie

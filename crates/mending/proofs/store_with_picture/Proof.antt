@@ -3,12 +3,12 @@ use mathlib.Core.Path.{_∙_}
 use native.Mathlib.Omega.{arith}
 use borrow.Author.Tests.{eqb-true}
 use borrow.Author.Needs.{needs}
-use Rattle.readers.proofs.Readers.{is-first}
-use Rattle.picture.proofs.Laws.{columns-fit}
-use Rattle.records.specs.Record.{recordPairs}
-use Rattle.chain.specs.Chain.{places, rows}
-use Rattle.memories.proofs.Laws.{lent8088}
 use Rattle.lent.proofs.Tests.{held, failed}
+use Rattle.memories.proofs.Laws.{lent8088}
+use Rattle.chain.specs.Chain.{places, rows}
+use Rattle.records.specs.Record.{recordPairs}
+use Rattle.picture.proofs.Laws.{columns-fit}
+use Rattle.readers.proofs.Readers.{is-first}
 use Rattle.mending.proofs.Outcome.{lent-with-picture, in-memory, comes-stored, refused-outcome, outcome}
 use Rattle.mending.proofs.store_with_picture.Statement.{statement}
 use Rattle.mending.proofs.store_with_picture.Tie as tie

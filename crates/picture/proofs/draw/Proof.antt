@@ -2,10 +2,10 @@ use Prim.Native.Nat.{_≤_}
 use native.Mathlib.Nat.{le-refl}
 use native.Mathlib.Omega.{arith}
 use borrow.Author.Needs.{needs}
-use Rattle.chain.specs.Chain.{chain, rows}
-use Rattle.records.specs.Record.{recordPairs}
-use Rattle.chain.proofs.Reading.{reads-fit}
 use Rattle.lent.proofs.Tests.{held, failed}
+use Rattle.chain.specs.Chain.{chain, rows}
+use Rattle.chain.proofs.Reading.{reads-fit}
+use Rattle.records.specs.Record.{recordPairs}
 use Rattle.picture.proofs.Laws.{lentPicture, columns-fit}
 use Rattle.picture.proofs.draw.Statement.{statement}
 use Rattle.picture.proofs.draw.Tie as tie

@@ -2,9 +2,9 @@ use Prim.Native.Nat.{_+_, _≤_}
 use mathlib.Core.Path.{refl}
 use native.Mathlib.Omega.{arith}
 use borrow.Author.Needs.{needs}
-use Rattle.chain.proofs.Laws.{row-found}
 use Rattle.chain.specs.Reading.{screenRead, attributeRead}
 use Rattle.chain.specs.Chain.{chain, places}
+use Rattle.chain.proofs.Laws.{row-found}
 use Rattle.readers.proofs.Laws.{whole-fits}
 use Rattle.readers.proofs.pass_row.Statement.{statement}
 use Rattle.readers.proofs.pass_row.Tie as tie
