@@ -19,6 +19,7 @@ expected:
 	host/target/release/expected_calls > crates/calls/stdout
 	host/target/release/expected_long_run > crates/long_run/stdout
 	host/target/release/expected_screens > crates/screens/stdout
+	host/target/release/expected_stores > crates/stores/stdout
 
 compare:
 	rt check rows

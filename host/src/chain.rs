@@ -1,31 +1,47 @@
 //! Document 01, "The chain of lines" and "The picture": the walk, the records, and the row lister.
 use crate::Answer;
-use std::cell::Cell;
+use std::cell::RefCell;
 
 pub const PLACES: usize = 4096;
 pub const ROWS: usize = 24;
 pub const RECORD: usize = 268;
 pub const PICTURE: usize = ROWS * RECORD;
 
-/// The screen memory of a walk, which counts the bytes that are read of it.
-struct Counted<'a> {
+/// A memory of a walk, which lists the places that are read of it.
+struct Watched<'a> {
     bytes: &'a [u8],
-    reads: Cell<usize>,
+    places: RefCell<Vec<usize>>,
 }
 
-impl Counted<'_> {
+impl<'a> Watched<'a> {
+    fn new(bytes: &'a [u8]) -> Self {
+        Self {
+            bytes,
+            places: RefCell::default(),
+        }
+    }
+
     fn read(&self, place: usize) -> u8 {
-        self.reads.set(self.reads.get() + 1);
-        self.bytes[place % PLACES]
+        let place = place % PLACES;
+        self.places.borrow_mut().push(place);
+        self.bytes[place]
     }
 }
 
-/// A row as it is shown: what its record says, and the cells.
+/// The places that a row reads of the two memories.
+#[derive(Default)]
+pub struct Places {
+    pub screen: Vec<usize>,
+    pub attribute: Vec<usize>,
+}
+
+/// A row as it is shown: what its record says, the cells, and what it reads.
 struct Row {
     start: usize,
     kind: u8,
     count: u8,
     cells: Vec<(u8, u8)>,
+    places: Places,
 }
 
 impl Row {
@@ -35,6 +51,7 @@ impl Row {
             kind: 3,
             count: 254,
             cells: Vec::new(),
+            places: Places::default(),
         }
     }
 
@@ -55,50 +72,67 @@ impl Row {
 
 /// The row at a start, and where the chain goes on unless the row is torn.
 fn row(
-    screen: &Counted,
+    screen: &[u8],
     attribute: &[u8],
     columns: usize,
     (start, kind): (usize, u8),
 ) -> (Row, Option<(usize, u8)>) {
+    let (screen, attribute) = (Watched::new(screen), Watched::new(attribute));
     let capacity = match kind & 3 {
         3 => columns,
         _ => columns / 2,
     };
-    let mut place = start;
     let mut cells = Vec::new();
-    loop {
+    let mut place = start;
+    let (count, next) = loop {
         let character = screen.read(place);
         if character == 0xFF {
             let low = screen.read(place + 1);
             let high = screen.read(place + 2) & 0x0F;
-            let next = (
-                usize::from(u16::from_le_bytes([low, high])),
-                attribute[(place + 1) % PLACES] & 7,
-            );
-            return (
-                Row {
-                    start,
-                    kind,
-                    count: cells.len() as u8,
-                    cells,
-                },
-                Some(next),
-            );
+            let next = usize::from(u16::from_le_bytes([low, high]));
+            let kind = attribute.read(place + 1) & 7;
+            break (cells.len() as u8, Some((next, kind)));
         }
         if cells.len() == capacity {
-            return (
-                Row {
-                    start,
-                    kind,
-                    count: 255,
-                    cells,
-                },
-                None,
-            );
+            break (255, None);
         }
-        cells.push((character, attribute[place % PLACES]));
+        cells.push((character, attribute.read(place)));
         place += 1;
+    };
+    let shown = Row {
+        start,
+        kind,
+        count,
+        cells,
+        places: Places {
+            screen: screen.places.take(),
+            attribute: attribute.places.take(),
+        },
+    };
+    (shown, next)
+}
+
+/// The rows of the walk of two memories of the right lengths.
+fn rows(screen: &[u8], attribute: &[u8], columns: usize) -> Vec<Row> {
+    let mut ahead = Some((0, 3));
+    let mut step = || match ahead {
+        Some(head) => {
+            let (shown, next) = row(screen, attribute, columns, head);
+            ahead = next;
+            shown
+        }
+        None => Row::dark(),
+    };
+    (0..ROWS).map(|_| step()).collect()
+}
+
+/// The places that each row reads.
+pub fn read_by_rows(screen: &[u8], attribute: &[u8], columns: usize) -> Answer<Vec<Places>> {
+    if screen.len() != PLACES || attribute.len() != PLACES {
+        return Err(1);
     }
+    let rows = rows(screen, attribute, columns).into_iter();
+    Ok(rows.map(|row| row.places).collect())
 }
 
 /// What a drawing gives: the bytes of screen memory that it read, and the picture.
@@ -111,26 +145,10 @@ pub fn draw(screen: &[u8], attribute: &[u8], columns: usize) -> Answer<Drawn> {
     if screen.len() != PLACES || attribute.len() != PLACES {
         return Err(1);
     }
-    let screen = Counted {
-        bytes: screen,
-        reads: Cell::new(0),
-    };
-    let mut picture = Vec::new();
-    let mut ahead = Some((0, 3));
-    for _ in 0..ROWS {
-        let shown = match ahead {
-            Some(head) => {
-                let (shown, next) = row(&screen, attribute, columns, head);
-                ahead = next;
-                shown
-            }
-            None => Row::dark(),
-        };
-        picture.extend(shown.record());
-    }
+    let rows = rows(screen, attribute, columns);
     Ok(Drawn {
-        reads: screen.reads.get(),
-        picture,
+        reads: rows.iter().map(|row| row.places.screen.len()).sum(),
+        picture: rows.iter().flat_map(Row::record).collect(),
     })
 }
 

@@ -4,6 +4,7 @@
 pub mod chain;
 pub mod machine;
 pub mod memories;
+pub mod mending;
 pub mod sample;
 pub mod trial;
 

@@ -15,58 +15,6 @@ pub struct Tried {
     pub sum: u64,
 }
 
-// Of so many bytes one is FF.
-fn every(n: u32) -> u64
-    ensures { λ r. ⌜ 0 < r ⌝ }
-{
-    match n {
-        0 => 1,
-        1 => 2,
-        2 => 3,
-        3 => 10,
-        4 => 40,
-        5 => 66,
-        6 => 80,
-        7 => 132,
-        _ => 400,
-    }
-}
-
-// The other bytes are under this.
-fn under(n: u32) -> u64
-    ensures { λ r. ⌜ 0 < r ⌝ }
-{
-    match n {
-        0 => 256,
-        1 => 1,
-        2 => 4,
-        _ => 17,
-    }
-}
-
-fn byte(a: u64, b: u64, every: u64, under: u64) -> u8
-    requires { ⌜ (0 < every) × (0 < under) ⌝ }
-{
-    if a / 65536 % every == 0 {
-        return 0xFF;
-    }
-    (b / 65536 % under % 256) as u8
-}
-
-fn strew(memory: &mut [u8], seed: u64, every: u64, under: u64) -> u64
-    requires { ⌜ (0 < every) × (0 < under) ⌝ }
-{
-    let mut last = seed;
-    let mut place = 0;
-    while place < memory.len() {
-        let a = trial::next(last);
-        last = trial::next(a);
-        memory[place] = byte(a, last, every, under);
-        place += 1;
-    }
-    last
-}
-
 // The sum with a drawing's answer and picture in it.
 pub fn drawn(
     sum: u64,
@@ -94,8 +42,8 @@ fn one(tried: Tried, every: u64, under: u64) -> Tried
     let mut screen = [0u8; SCREEN_BYTES];
     let mut attribute = [0u8; ATTRIBUTE_BYTES];
     let mut picture = [0u8; PICTURE_BYTES];
-    let seed = strew(&mut screen, tried.seed, every, under);
-    let seed = strew(&mut attribute, seed, 30, 256);
+    let seed = trial::strew(&mut screen, tried.seed, every, under);
+    let seed = trial::strew(&mut attribute, seed, 30, 256);
     let sum = drawn(
         tried.sum,
         Machine::power_up(),
@@ -118,8 +66,8 @@ fn some(tried: Tried, every: u64, under: u64) -> Tried
 }
 
 fn told(tried: Tried, n: u32, m: u32) -> Tried {
-    let often = every(n);
-    let most = under(m);
+    let often = trial::every(n);
+    let most = trial::under(m);
     let last = some(tried, often, most);
     say::number(b"FF every ", often);
     say::number(b" others under ", most);

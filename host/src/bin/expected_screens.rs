@@ -1,22 +1,8 @@
 //! What the program crates/screens must write, by the model.
 use host::chain::{draw, listing, PICTURE, PLACES, RECORD};
-use host::trial::{added, next, summed};
+use host::trial::{added, strewn, summed};
 
 const SCREENS: u32 = 60;
-
-fn strewn(seed: &mut u32, every: u32, under: u32) -> Vec<u8> {
-    (0..PLACES)
-        .map(|_| {
-            let a = next(*seed);
-            *seed = next(a);
-            if (a >> 16) % every == 0 {
-                0xFF
-            } else {
-                ((*seed >> 16) % under) as u8
-            }
-        })
-        .collect()
-}
 
 fn drawn(sum: u32, screen: &[u8], attribute: &[u8], columns: usize) -> (u32, Vec<u8>) {
     let drawn = draw(screen, attribute, columns).ok().unwrap();
@@ -31,8 +17,8 @@ fn strewn_screens() {
     for every in [1, 2, 3, 10, 40, 66, 80, 132, 400] {
         for under in [256, 1, 4, 17] {
             for _ in 0..SCREENS {
-                let screen = strewn(&mut seed, every, under);
-                let attribute = strewn(&mut seed, 30, 256);
+                let screen = strewn(&mut seed, PLACES, every, under);
+                let attribute = strewn(&mut seed, PLACES, 30, 256);
                 for columns in [80, 132] {
                     sum = drawn(sum, &screen, &attribute, columns).0;
                 }

@@ -3,8 +3,8 @@ use mathlib.Core.Path.{_≡_}
 use native.Mathlib.Omega.{arith}
 use lib.ListN.{length, length-set}
 use borrow.Author.Needs.{needs}
-use Rattle.screens.proofs.strewn.strew.Statement.{statement}
-use Rattle.screens.proofs.strewn.strew.Tie as tie
+use Rattle.trial.proofs.strew.Statement.{statement}
+use Rattle.trial.proofs.strew.Tie as tie
 
 abbrev Inv-loop : tie.InvT-loop
 Inv-loop memory₀ seed every under last₀ place₀ memory last place = length memory ≡ length memory₀
@@ -21,8 +21,8 @@ next-requires c κs = search needs
 next-requires-2 : tie.Need-next-requires-2 Inv-loop μ-loop
 next-requires-2 c κs = search needs
 
-byte-requires : tie.Need-byte-requires Inv-loop μ-loop
-byte-requires c κs = search needs
+strewn-requires : tie.Need-strewn-requires Inv-loop μ-loop
+strewn-requires c κs = search needs
 
 slice-write-memory : tie.Need-slice-write-memory Inv-loop μ-loop
 slice-write-memory c = search needs
@@ -51,7 +51,7 @@ strew-spec =
     loop-holds
     next-requires
     next-requires-2
-    byte-requires
+    strewn-requires
     slice-write-memory
     add-place
     loop-less
