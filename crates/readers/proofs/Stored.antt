@@ -1,19 +1,23 @@
--- A store that a row does not read leaves what the row reads: the statement of specs/Stored.antt.
-use Prim.Native.Nat.{ℕ, zero, suc, _+_, _%_}
-use mathlib.Core.Path.{_≡_, refl, sym, _∙_}
+-- A store and what the rows read: the statements of specs/Stored.antt.
+use Prim.Native.Nat.{ℕ, zero, suc, _+_, _%_, _<_}
+use mathlib.Core.Path.{_≡_, refl, sym, ap, _∙_, subst}
 use mathlib.Core.List.{List, _++_, map-append}
 use mathlib.Core.Bool.{Bool, true, false, true≢false}
 use native.Mathlib.Nat.{mod-mod}
-use lib.ListN.{set}
-use lib.Seq.{getD-set-other}
+use native.Mathlib.Omega.{arith}
+use lib.ListN.{getD, set}
+use lib.Seq.{getD-set-other, set-set, set-getD}
 use lib.Dec.{eqb}
 use borrow.Author.Tests.{eqb-false}
+use Rattle.memories.specs.declared.view8088.Seen.{Seen}
 use Rattle.memories.specs.declared.view8088.Seen.the-variants.{Shared, Screen, Attribute, Nowhere}
-use Rattle.chain.specs.Chain.{Row, Whole, Torn, Dark, places, byteAt, capacity}
+use Rattle.chain.specs.Chain.{Chain, Row, Whole, Torn, Dark, places, byteAt, capacity, rowAt}
 use Rattle.chain.specs.Reading.{from, screenRead, attributeRead}
 use Rattle.chain.specs.Alike.{bytesAt}
-use Rattle.readers.specs.Readers.{among}
-use Rattle.readers.specs.Stored.{UnreadLeaves}
+use Rattle.chain.proofs.Alike.{rows-are-what-they-read}
+use Rattle.readers.specs.Readers.{among, rowReads, firstReader}
+use Rattle.readers.specs.Stored.{chainStored, UnreadLeaves, EitherWalk}
+use Rattle.readers.proofs.Readers.{is-first}
 use Rattle.readers.proofs.Laws.{among-both, neither}
 
 module _ (memory : List ℕ) (place byte : ℕ) where
@@ -37,6 +41,13 @@ module _ (memory : List ℕ) (place byte : ℕ) where
       let none = neither (among place first) (among place second) (sym (among-both place first second) ∙ unread) in
       simp map-append (rw (f (none .0), s (none .1)))
 
+-- the byte that stands where it is stored
+abbrev stood : Seen → Chain → ℕ
+stood (Shared place) c = 0
+stood (Screen place) c = getD (c .screen) place 0
+stood (Attribute place) c = getD (c .attribute) place 0
+stood Nowhere c = 0
+
 pub unread-leaves : UnreadLeaves
 unfolding screenRead attributeRead
 unread-leaves c (Shared place) byte shared row unread = record { columns = refl; screen = refl; attribute = refl }
@@ -58,3 +69,42 @@ unread-leaves c (Attribute place) byte shared row unread =
     go (Torn head) = from-leaves (c .attribute) place byte (head .start) (capacity (c .columns) (head .kind))
     go Dark = λ h. refl
 unread-leaves c Nowhere byte shared row unread = record { columns = refl; screen = refl; attribute = refl }
+
+module _ (c : Chain) (seen : Seen) (byte : ℕ) (shared : List ℕ) where
+  abbrev after : Chain
+  after = chainStored c seen byte shared
+
+  -- which places a row reads is told by the row and the column setting alone
+  same-places : (row : Row) → rowReads after seen row ≡ rowReads c seen row
+  unfolding screenRead attributeRead
+  same-places (Whole head cells) = refl
+  same-places (Torn head) = refl
+  same-places Dark = refl
+
+  -- so no row ahead of f reads the byte after the store
+  no-earlier : firstReader after seen < firstReader c seen → ⊥
+  no-earlier less =
+      let f = firstReader after seen in
+      let unread = is-first c seen .1 .1 in
+      let same = rows-are-what-they-read c after (firstReader c seen)
+      (λ row h. unread-leaves c seen byte shared (rowAt c row) (unread row h)) .1 f less in
+      let reads = is-first after seen .1 .0 (omega (arith, is-first c seen .0)) in
+      true≢false (sym reads ∙ same-places (rowAt after f) ∙ ap (rowReads c seen) same ∙ unread f less)
+
+-- a store of the byte that stood there gives the chain back
+put-back :
+    (c : Chain) (seen : Seen) (byte : ℕ) (shared : List ℕ)
+    → chainStored (chainStored c seen byte shared) seen (stood seen c) shared ≡ c
+put-back c (Shared place) byte shared = refl
+put-back c (Screen place) byte shared = rw (set-set (c .screen) place byte (getD (c .screen) place 0), set-getD (c .screen) place 0)
+put-back c (Attribute place) byte shared =
+    rw (set-set (c .attribute) place byte (getD (c .attribute) place 0), set-getD (c .attribute) place 0)
+put-back c Nowhere byte shared = refl
+
+pub either-walk : EitherWalk
+either-walk c seen byte shared =
+    let d = chainStored c seen byte shared in
+    let back : (firstReader c seen < firstReader d seen → ⊥) =
+    subst (λ (k : Chain). firstReader k seen < firstReader d seen → ⊥) (put-back c seen byte shared)
+    (no-earlier d seen (stood seen c) shared) in
+    omega (arith, back, no-earlier c seen byte shared)

@@ -1,4 +1,5 @@
--- A store that a row does not read leaves what the row reads.
+-- A store and what the rows read: a row that does not read the stored byte reads the same, and the first row that reads it is
+-- the same before and after.
 use Prim.Native.Nat.{ℕ}
 use mathlib.Core.Path.{_≡_}
 use mathlib.Core.List.{List}
@@ -7,7 +8,7 @@ use Rattle.memories.specs.View8088.{storeSeen}
 use Rattle.memories.specs.declared.view8088.Seen.{Seen}
 use Rattle.chain.specs.Chain.{Chain, Row, chain}
 use Rattle.chain.specs.Alike.{ReadAlike}
-use Rattle.readers.specs.Readers.{rowReads}
+use Rattle.readers.specs.Readers.{rowReads, firstReader}
 
 -- the chain after the byte is stored
 abbrev pub chainStored : Chain → Seen → (byte : ℕ) → (shared : List ℕ) → Chain
@@ -19,3 +20,9 @@ abbrev pub UnreadLeaves : Type 0
 UnreadLeaves =
     (c : Chain) (seen : Seen) (byte : ℕ) (shared : List ℕ) (row : Row) → rowReads c seen row ≡ false
     → ReadAlike c (chainStored c seen byte shared) row
+
+-- "by the walk of memory before the store": the walk after it gives the same f
+abbrev pub EitherWalk : Type 0
+EitherWalk =
+    (c : Chain) (seen : Seen) (byte : ℕ) (shared : List ℕ)
+    → firstReader (chainStored c seen byte shared) seen ≡ firstReader c seen
