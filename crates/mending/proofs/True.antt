@@ -16,13 +16,11 @@ use Rattle.memories.specs.View8088.{seen8088, byteSeen, storeSeen, store8088}
 use Rattle.memories.specs.declared.view8088.Seen.{Seen}
 use Rattle.memories.specs.declared.view8088.Seen.the-variants.{Shared, Screen, Attribute, Nowhere}
 use Rattle.chain.specs.Chain.{Chain, chain, Row, Whole, Torn, Dark, places, byteAt, capacity, terminator, link, rowFrom, next, rows, rowAt}
-use Rattle.chain.specs.Alike.{ReadAlike}
-use Rattle.chain.proofs.Alike.{rows-are-what-they-read}
 use Rattle.records.specs.Record.{recordPairs, cellPairs, recordOf}
-use Rattle.records.proofs.Alike.{record-is-what-it-reads}
 use Rattle.picture.specs.Picture.{recordAt, pictureOf, recordIn}
 use Rattle.picture.specs.Draw.{chainOf}
 use Rattle.picture.proofs.Laws.{columns-fit}
+use Rattle.picture.proofs.Alike.{records-are-what-the-rows-read}
 use Rattle.picture.proofs.Records.{same-records, record-in-order}
 use Rattle.picture.proofs.Sizes.{records-sized, picture-sized}
 use Rattle.readers.specs.Readers.{firstReader}
@@ -42,10 +40,8 @@ module _ (c : Chain) (seen : Seen) (byte : ℕ) (shared : List ℕ) (wide : c .c
   ahead-same : (row : ℕ) → row < firstReader c seen → recordAt after row ≡ recordAt c row
   ahead-same row ahead =
       let unread = is-first c seen .1 .1 in
-      let alike : (r : ℕ) → r < firstReader c seen → ReadAlike c after (rowAt c r) =
-      λ r h. unread-leaves c seen byte shared (rowAt c r) (unread r h) in
-      ap (recordOf after) (rows-are-what-they-read c after (firstReader c seen) alike .1 row ahead)
-      ∙ record-is-what-it-reads c after (rowAt c row) (alike row ahead)
+      records-are-what-the-rows-read c after (firstReader c seen)
+      (λ r h. unread-leaves c seen byte shared (rowAt c r) (unread r h)) row ahead
 
   mended-true : mended after (firstReader c seen) (pictureOf c) ≡ pictureOf after
   mended-true =

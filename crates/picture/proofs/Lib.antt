@@ -3,3 +3,4 @@ pub mod Records
 pub mod Walk
 pub mod Counted
 pub mod Sizes
+pub mod Alike

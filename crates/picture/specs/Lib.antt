@@ -2,3 +2,4 @@ pub mod Picture
 pub mod Draw
 pub mod Counted
 pub mod Sizes
+pub mod Alike
