@@ -1,3 +1,4 @@
+use mathlib.Core.Path.{refl}
 use borrow.Author.Needs.{needs}
 use Rattle.chain.specs.Chain.{link}
 use Rattle.chain.proofs.link.Statement.{statement}
@@ -35,7 +36,7 @@ byte-at-requires-3 c κs = search needs
 
 returns : tie.Need-returns
 unfolding link
-returns c = rw (c .before .before .byte-at .ensures, c .before .byte-at2 .ensures, c .byte-at3 .ensures)
+returns c = rw (c .before .before .byte-at .ensures, c .before .byte-at2 .ensures, c .byte-at3 .ensures) refl
 
 pub link-spec : {M : Type 1} → statement M
 link-spec =
