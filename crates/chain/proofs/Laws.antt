@@ -88,27 +88,3 @@ pub ahead-placed : (c : Chain) (row : ℕ) → Placed (aheadOf c row)
 unfolding aheadOf
 ahead-placed c zero = omega arith
 ahead-placed c (suc row) = placed-after c (rowAt c row)
-
--- the search that draws nothing: what holds when so many bytes have been passed
-pub record Sought (screen : List ℕ) (start bytes cells : ℕ) : Type 0 where
-  pub within : cells ≤ bytes
-  pub search-left : firstFF screen start 0 bytes ≡ firstFF screen start cells (bytes - cells)
-
-pub none-sought : (screen : List ℕ) (start bytes : ℕ) → Sought screen start bytes 0
-none-sought screen start bytes = record { within = omega arith; search-left = ap (firstFF screen start 0) (omega arith) }
-
-module _ {screen : List ℕ} {start bytes cells byte : ℕ} (s : Sought screen start bytes cells) where
-  pub sought-on :
-      byte ≡ byteAt screen (start + cells) → cells < bytes → (byte ≡ 0xFF → ⊥) → Sought screen start bytes (cells + 1)
-  sought-on read more h =
-      record { within = omega arith; search-left = s .search-left ∙ search-goes-on screen start bytes cells read more h }
-
-  pub sought-found :
-      byte ≡ byteAt screen (start + cells) → cells < bytes → byte ≡ 0xFF → After cells ≡ firstFF screen start 0 bytes
-  sought-found read more h = sym (s .search-left ∙ search-ends screen start bytes cells read more h)
-
-pub sought-missing :
-    {screen : List ℕ} {start bytes cells : ℕ} → Sought screen start bytes cells → bytes ≤ cells
-    → Missing ≡ firstFF screen start 0 bytes
-sought-missing {screen} {start} {bytes} {cells} s all =
-    sym (s .search-left ∙ search-fails screen start bytes cells (omega (arith, s .within)))

@@ -1,3 +1,4 @@
 pub mod Laws
 pub mod Reading
 pub mod Alike
+pub mod Searching

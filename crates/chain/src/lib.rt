@@ -4,6 +4,7 @@ ghost use Prim.Native.Nat.{_+_, _≤_, _<_};
 ghost use mathlib.Core.Path.{_≡_};
 ghost use lib.ListN.{length};
 ghost use Rattle.lent.specs.Lengths.{screenBytes, attributeBytes};
+ghost use Rattle.chain.specs.Searching.{hasFF, Sought};
 ghost use Rattle.chain.specs.Chain.{places, byteAt, capacity, first, firstFF, link};
 
 // There are always so many rows.
@@ -12,6 +13,8 @@ pub const ROWS: usize = 24;
 pub const TERMINATOR: u8 = 0xFF;
 // The one kind that is not wide, in bits 1 and 0.
 const NORMAL: u8 = 3;
+// So many bytes are looked at together.
+const TOGETHER: usize = 16;
 
 // Where a row starts, and its kind.
 pub struct Head {
@@ -60,13 +63,57 @@ pub fn capacity(columns: usize, kind: u8) -> usize
     }
 }
 
+// Whether one of these bytes is the terminator. The loop has no way out but its end, so that the bytes
+// can be looked at together.
+fn has_terminator(bytes: &[u8]) -> bool
+    ensures { λ r. ⌜ r ≡ hasFF (now (bytes .entry)) ⌝ }
+{
+    let mut has = false;
+    let mut at = 0;
+    while at < bytes.len() {
+        has = has | (bytes[at] == TERMINATOR);
+        at += 1;
+    }
+    has
+}
+
+// The bytes of a row, but for the last, that come before the end of memory.
+fn before_the_end(start: usize, capacity: usize) -> usize
+    requires { ⌜ start < places ⌝ }
+    ensures { λ r. ⌜ (r ≤ capacity) × (start + r ≤ places) ⌝ }
+{
+    let left = lent::SCREEN_BYTES - start;
+    if left < capacity {
+        return left;
+    }
+    capacity
+}
+
+// So many bytes of a row, at least, are no terminator.
+fn pass_together(screen: &[u8], start: usize, capacity: usize) -> usize
+    requires { ⌜ length (now screen) ≡ screenBytes ⌝ }
+    requires { ⌜ (start < places) × (capacity < places) ⌝ }
+    ensures { λ r. ⌜ Sought (now (screen .entry)) start (capacity + 1) r ⌝ }
+{
+    let room = before_the_end(start, capacity);
+    let mut cells = 0;
+    while cells + TOGETHER <= room {
+        let at = start + cells;
+        if has_terminator(&screen[at..at + TOGETHER]) {
+            return cells;
+        }
+        cells += TOGETHER;
+    }
+    cells
+}
+
 // Finds the terminator among the first capacity + 1 bytes of a row, and draws nothing.
 pub fn find_terminator(screen: &[u8], start: usize, capacity: usize) -> Terminator
     requires { ⌜ length (now screen) ≡ screenBytes ⌝ }
     requires { ⌜ (start < places) × (capacity < places) ⌝ }
     ensures { λ r. ⌜ r ≡ firstFF (now (screen .entry)) start 0 (capacity + 1) ⌝ }
 {
-    let mut cells = 0;
+    let mut cells = pass_together(screen, start, capacity);
     while cells <= capacity {
         if byte_at(screen, start + cells) == TERMINATOR {
             return Terminator::After(cells);

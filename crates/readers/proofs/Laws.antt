@@ -2,7 +2,7 @@
 use Prim.Native.Nat.{ℕ, zero, suc, _+_, _-_, _%_, _≤_, _<_}
 use mathlib.Core.Path.{_≡_, refl, sym, _∙_, ap}
 use mathlib.Core.List.{List, [], _∷_, _++_}
-use mathlib.Core.Bool.{Bool, true, false, cond, _||_, true≢false}
+use mathlib.Core.Bool.{Bool, true, false, cond, _||_}
 use native.Mathlib.Nat.{mod-mod}
 use native.Mathlib.Omega.{arith}
 use lib.Dec.{eqb, ltb}
@@ -76,10 +76,6 @@ among-both place (one ∷ first) second = go (eqb place one) (among-both place f
         → cond b true (among place (first ++ second)) ≡ (cond b true (among place first) || among place second)
     go true later = refl
     go false later = later
-
-pub neither : (a b : Bool) → (a || b) ≡ false → (a ≡ false) × (b ≡ false)
-neither true b h = absurd (true≢false h)
-neither false b h = (refl, h)
 
 -- a dark row reads nothing
 pub none-read : (seen : Seen) → readsByte seen [] [] ≡ false

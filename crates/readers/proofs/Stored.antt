@@ -14,11 +14,12 @@ use Rattle.memories.specs.declared.view8088.Seen.the-variants.{Shared, Screen, 
 use Rattle.chain.specs.Chain.{Chain, Row, Whole, Torn, Dark, places, byteAt, capacity, rowAt}
 use Rattle.chain.specs.Reading.{from, screenRead, attributeRead}
 use Rattle.chain.specs.Alike.{bytesAt}
+use Rattle.chain.proofs.Searching.{neither}
 use Rattle.chain.proofs.Alike.{rows-are-what-they-read}
 use Rattle.readers.specs.Readers.{among, rowReads, firstReader}
 use Rattle.readers.specs.Stored.{chainStored, UnreadLeaves, EitherWalk}
 use Rattle.readers.proofs.Readers.{is-first}
-use Rattle.readers.proofs.Laws.{among-both, neither}
+use Rattle.readers.proofs.Laws.{among-both}
 
 module _ (memory : List ℕ) (place byte : ℕ) where
   -- a memory reads alike at these places where the place that is stored to is none of them

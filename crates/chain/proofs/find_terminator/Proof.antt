@@ -1,7 +1,8 @@
 use Prim.Native.Nat.{_+_, _-_}
 use native.Mathlib.Omega.{arith}
 use borrow.Author.Needs.{needs}
-use Rattle.chain.proofs.Laws.{Sought, none-sought, sought-on, sought-found, sought-missing}
+use Rattle.chain.specs.Searching.{Sought}
+use Rattle.chain.proofs.Searching.{sought-on, sought-found, sought-missing}
 use Rattle.chain.proofs.find_terminator.Statement.{statement}
 use Rattle.chain.proofs.find_terminator.Tie as tie
 
@@ -11,8 +12,11 @@ Inv-loop screen start capacity cells₀ cells = Sought screen start (capacity + 
 abbrev μ-loop : tie.MeasureT-loop
 μ-loop screen start capacity cells₀ cells = capacity + 1 - cells
 
+pass-together-requires : tie.Need-pass-together-requires Inv-loop μ-loop
+pass-together-requires c κs = search needs
+
 loop-holds : tie.Need-loop-holds Inv-loop μ-loop
-loop-holds c = none-sought _ _ _
+loop-holds c = c .pass-together .ensures
 
 add-byte-at : tie.Need-add-byte-at Inv-loop μ-loop
 add-byte-at c = search needs
@@ -41,6 +45,7 @@ find-terminator-spec =
     (tie.spec
     Inv-loop
     μ-loop
+    pass-together-requires
     loop-holds
     add-byte-at
     byte-at-requires

@@ -1,0 +1,44 @@
+use Prim.Native.Nat.{_-_, _≤_}
+use mathlib.Core.Path.{_≡_, refl, sym, ap, _∙_}
+use native.Mathlib.Omega.{arith}
+use lib.Seq.{take-all}
+use lib.ListN.{length, take}
+use borrow.Author.Needs.{needs}
+use Rattle.chain.specs.Searching.{hasFF}
+use Rattle.chain.proofs.Searching.{has-more}
+use Rattle.chain.proofs.has_terminator.Statement.{statement}
+use Rattle.chain.proofs.has_terminator.Tie as tie
+
+abbrev Inv-loop : tie.InvT-loop
+Inv-loop bytes has₀ at₀ has at = (at ≤ length bytes) × (has ≡ hasFF (take at bytes))
+
+abbrev μ-loop : tie.MeasureT-loop
+μ-loop bytes has₀ at₀ has at = length bytes - at
+
+loop-holds : tie.Need-loop-holds Inv-loop μ-loop
+unfolding hasFF
+loop-holds c = (omega arith, refl)
+
+shared-slice-read-has : tie.Need-shared-slice-read-has Inv-loop μ-loop
+shared-slice-read-has c = search needs
+
+add-at : tie.Need-add-at Inv-loop μ-loop
+add-at c = search needs
+
+loop-less : tie.Need-loop-less Inv-loop μ-loop
+loop-less c = search needs
+
+loop-again : tie.Need-loop-again Inv-loop μ-loop
+loop-again c =
+    let l = c .before .before in
+    (omega arith, rw (l .loop .inv .1) (sym (has-more (l .before .args .bytes .now) (l .loop .at) (omega arith))))
+
+returns : tie.Need-returns Inv-loop μ-loop
+returns c =
+    let bytes = c .before .before .args .bytes .now in
+    c .before .loop .inv .1 ∙ ap hasFF (take-all (c .before .loop .at) bytes (omega arith))
+
+pub has-terminator-spec : {M : Type 1} → statement M
+has-terminator-spec =
+    tie.close
+    (tie.spec Inv-loop μ-loop loop-holds shared-slice-read-has add-at loop-less loop-again returns)

@@ -1,0 +1,82 @@
+use Prim.Native.Nat.{_+_, _-_}
+use mathlib.Core.Path.{sym, _∙_}
+use native.Mathlib.Omega.{arith}
+use borrow.Author.Needs.{needs}
+use Rattle.chain.specs.Searching.{Sought}
+use Rattle.chain.proofs.Searching.{none-sought, sought-many, part-has-none}
+use Rattle.chain.proofs.pass_together.Statement.{statement}
+use Rattle.chain.proofs.pass_together.Tie as tie
+
+abbrev Inv-loop : tie.InvT-loop
+Inv-loop screen start capacity room cells₀ cells = Sought screen start (capacity + 1) cells
+
+abbrev μ-loop : tie.MeasureT-loop
+μ-loop screen start capacity room cells₀ cells = room - cells
+
+before-the-end-requires : tie.Need-before-the-end-requires Inv-loop μ-loop
+before-the-end-requires c κs = search needs
+
+loop-holds : tie.Need-loop-holds Inv-loop μ-loop
+loop-holds c = none-sought _ _ _
+
+add-loop : tie.Need-add-loop Inv-loop μ-loop
+add-loop c = search needs
+
+add-at : tie.Need-add-at Inv-loop μ-loop
+add-at c = search needs
+
+add-has-terminator : tie.Need-add-has-terminator Inv-loop μ-loop
+add-has-terminator c = search needs
+
+sub-has-terminator : tie.Need-sub-has-terminator Inv-loop μ-loop
+sub-has-terminator c = search needs
+
+part-has-terminator-start : tie.Need-part-has-terminator-start Inv-loop μ-loop
+part-has-terminator-start c = search needs
+
+part-has-terminator-end : tie.Need-part-has-terminator-end Inv-loop μ-loop
+part-has-terminator-end c = search needs
+
+has-terminator-requires : tie.Need-has-terminator-requires Inv-loop μ-loop
+has-terminator-requires c κs = search needs
+
+returns : tie.Need-returns Inv-loop μ-loop
+returns c = c .before .before .before .before .loop .inv
+
+add-cells : tie.Need-add-cells Inv-loop μ-loop
+add-cells c = search needs
+
+loop-less : tie.Need-loop-less Inv-loop μ-loop
+loop-less c = search needs
+
+loop-again : tie.Need-loop-again Inv-loop μ-loop
+loop-again c =
+    let h = c .before in
+    let l = h .before .before .before in
+    let s = l .before .before .before in
+    let none = part-has-none (s .args .screen .now) (s .args .start + l .loop .cells) 16 (s .pre .0) (omega arith) (sym (h .has-terminator .ensures) ∙ c .if1 .left) in
+    sought-many (l .loop .cells) 16 (l .loop .inv) (omega arith) none
+
+returns-2 : tie.Need-returns-2 Inv-loop μ-loop
+returns-2 c = c .before .loop .inv
+
+pub pass-together-spec : {M : Type 1} → statement M
+pass-together-spec =
+    tie.close
+    (tie.spec
+    Inv-loop
+    μ-loop
+    before-the-end-requires
+    loop-holds
+    add-loop
+    add-at
+    add-has-terminator
+    sub-has-terminator
+    part-has-terminator-start
+    part-has-terminator-end
+    has-terminator-requires
+    returns
+    add-cells
+    loop-less
+    loop-again
+    returns-2)
