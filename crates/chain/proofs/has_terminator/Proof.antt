@@ -1,8 +1,10 @@
 use Prim.Native.Nat.{_-_, _≤_}
+use mathlib.Core.Bool.{Bool, _||_}
 use mathlib.Core.Path.{_≡_, refl, sym, ap, _∙_}
 use native.Mathlib.Omega.{arith}
+use lib.Dec.{eqb}
+use lib.ListN.{length, getD, take}
 use lib.Seq.{take-all}
-use lib.ListN.{length, take}
 use borrow.Author.Needs.{needs}
 use Rattle.chain.specs.Searching.{hasFF}
 use Rattle.chain.proofs.Searching.{has-more}
@@ -31,7 +33,9 @@ loop-less c = search needs
 loop-again : tie.Need-loop-again Inv-loop μ-loop
 loop-again c =
     let l = c .before .before in
-    (omega arith, rw (l .loop .inv .1) (sym (has-more (l .before .args .bytes .now) (l .loop .at) (omega arith))))
+    let bytes = l .before .args .bytes .now in
+    let at = l .loop .at in
+    (omega arith, ap (λ (has : Bool). has || eqb (getD bytes at 0) 0xFF) (l .loop .inv .1) ∙ sym (has-more bytes at (omega arith)))
 
 returns : tie.Need-returns Inv-loop μ-loop
 returns c =
