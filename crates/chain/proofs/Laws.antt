@@ -67,7 +67,7 @@ unfolding rowFrom terminator
 row-found c head is found = ap (ended head) (ap (λ (n : ℕ). firstFF (c .screen) (head .start) 0 (n + 1)) (sym is) ∙ sym found)
 
 -- what lies ahead after a row is the row after it, and starts at a place
-pub leads-on : (c : Chain) (row : ARow) → rowAhead c (aheadAfter c row) ≡ next c row
+leads-on : (c : Chain) (row : ARow) → rowAhead c (aheadAfter c row) ≡ next c row
 unfolding next
 leads-on c (Whole head cells) = refl
 leads-on c (Torn head) = refl
@@ -78,7 +78,7 @@ unfolding aheadOf rowAt
 ahead-leads c zero = refl
 ahead-leads c (suc row) = leads-on c (rowAt c row)
 
-pub placed-after : (c : Chain) (row : ARow) → Placed (aheadAfter c row)
+placed-after : (c : Chain) (row : ARow) → Placed (aheadAfter c row)
 unfolding link
 placed-after c (Whole head cells) = mod-lt _ (omega arith)
 placed-after c (Torn head) = tt

@@ -23,7 +23,7 @@ reads-as-counted c (Torn head) = from-length (head .start) (capacity (c .columns
 reads-as-counted c Dark = refl
 
 module _ (c : Chain) where
-  pub reads-from : (head : Head) → reads c (rowFrom c head) ≤ c .columns + 3
+  reads-from : (head : Head) → reads c (rowFrom c head) ≤ c .columns + 3
   unfolding reads rowFrom terminator
   reads-from head = go (terminator c head) refl
     where
@@ -43,7 +43,7 @@ module _ (c : Chain) where
   reads-at zero = reads-from first
   reads-at (suc row) = reads-next (rowAt c row)
 
-  pub reads-within : (row : ℕ) → readsTo c row ≤ row * (c .columns + 3)
+  reads-within : (row : ℕ) → readsTo c row ≤ row * (c .columns + 3)
   unfolding readsTo
   reads-within zero = omega arith
   reads-within (suc row) = rw (suc-mul row (c .columns + 3)) (omega (arith, reads-within row, reads-at row))

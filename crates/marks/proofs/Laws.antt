@@ -7,7 +7,7 @@ use native.Mathlib.Numerals.{add-one}
 use native.Mathlib.Omega.{arith}
 use Rattle.marks.specs.Marks.{marked, marksTo}
 
-pub marked-under : (marks row : ℕ) (test : Bool) → marks < 2 ^ row → marked marks row test < 2 ^ (row + 1)
+marked-under : (marks row : ℕ) (test : Bool) → marks < 2 ^ row → marked marks row test < 2 ^ (row + 1)
 marked-under marks row true h = rw (add-one, two-pow-succ) (omega arith)
 marked-under marks row false h = rw (add-one, two-pow-succ) (omega arith)
 
