@@ -2,11 +2,13 @@
 //! that the programs of the gate must write, so that the proved code is held by something beside
 //! its own definitions.
 pub mod chain;
+pub mod dots;
 pub mod machine;
 pub mod memories;
 pub mod mending;
 pub mod sample;
 pub mod trial;
+pub mod tube_sample;
 
 /// A number of refusal, 1 to 6, or the accepted value.
 pub type Answer<T> = Result<T, u8>;

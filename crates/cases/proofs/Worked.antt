@@ -12,12 +12,19 @@ use Rattle.picture.specs.Draw.{lengthsPicture}
 use Rattle.marks.specs.Marks.{bitSet, marksTo}
 use Rattle.readers.specs.Readers.{among, firstFrom}
 use Rattle.mending.specs.Mending.{sameBytes}
+use Rattle.glyphs.specs.Glyphs.{glyphByte}
+use Rattle.glyphs.specs.Scans.{scanAddresses, scanAddress, glyphScan}
+use Rattle.dots.specs.Attributes.{shade}
+use Rattle.dots.specs.Cell.{glyphDots, twice, cellDots}
+use Rattle.scan_line.specs.Line.{pairDots, rowDots, showsNothing, lineOf}
+use Rattle.scan_line.specs.Call.{lengthsLine, onTube}
 use Rattle.cases.specs.Said.{Said, Case, differ}
 use Rattle.cases.specs.Screens.{alikeFrom, alike, drawnFrom, rowsOf, drawnAll, memory, byteOfRow, startOfRow, countOfRow}
 use Rattle.cases.specs.Memories.{zeros, refusedBy, storedByZ80, storedBy8088}
 use Rattle.cases.specs.Ports.{shadow, nvm, written, writtenAll, none, recalls}
 use Rattle.cases.specs.Mends.{markedOf, markedFrom, marked, storedAt, mendedRow}
-use Rattle.cases.specs.Table.{screens, stores, writes, mends, table}
+use Rattle.cases.specs.Dots.{showing, rowOfKind, litDots, everyByte, ofCharacter, numbered, asNumber, scanShown, digits80, digits132, bits, litByBits, underDigits, printed}
+use Rattle.cases.specs.Table.{screens, stores, writes, mends, dots, table}
 
 abbrev gives : List Case → List (List Said)
 gives = map (λ (c : Case). c .gives)
@@ -41,6 +48,10 @@ mended-out : gives mends ≡ says mends
 unfolding byteAt capacity firstFF terminator link rowFrom next rowAt screenRead attributeRead from cellPairs fillPairs recordOf inOrder recordIn lengthsPicture within lengths8088 seen8088 among firstFrom sameBytes bitSet marksTo drawnFrom rowsOf memory zeros markedOf markedFrom marked storedAt mendedRow mends
 mended-out = refl
 
+shown-out : gives dots ≡ says dots
+unfolding capacity inOrder recordIn glyphByte scanAddresses scanAddress glyphScan shade glyphDots twice cellDots pairDots rowDots showsNothing lineOf lengthsLine onTube showing rowOfKind litDots everyByte ofCharacter numbered asNumber scanShown digits80 digits132 bits litByBits underDigits printed dots
+shown-out = refl
+
 pub worked : map (λ (c : Case). c .gives) table ≡ map (λ (c : Case). c .says) table
 unfolding table
-worked = simp map-append (rw (drawn, stored, written-out, mended-out))
+worked = simp map-append (rw (drawn, stored, written-out, mended-out, shown-out))

@@ -17,6 +17,8 @@ pub data Said : Type 0 where
   Count : ℕ → Said
   Reads : ℕ → Said
   Marked : (row : ℕ) → Said
+  Dots : (lit : List ℕ) → Said
+  GlyphScan : ℕ → Said
 
 -- a case: what the definitions give, and what document 01 says
 pub record Case : Type 0 where

@@ -4,13 +4,14 @@ use mathlib.Core.Bool.{true, false}
 use lib.ListN.{replicate}
 use Rattle.lent.specs.Lengths.{screenBytes, attributeBytes}
 use Rattle.machine.specs.Power.{powerUp}
-use Rattle.chain.specs.Chain.{normal, doubleWidth}
+use Rattle.chain.specs.Chain.{bottomHalf, topHalf, doubleWidth, normal}
 use Rattle.records.specs.Record.{tornCount, darkCount}
-use Rattle.cases.specs.Said.{Case, Private, Shared, Screen, Attribute, Refused, Interlaced, Recalls, Row, Start, Count, Reads}
+use Rattle.cases.specs.Said.{Case, Private, Shared, Screen, Attribute, Refused, Interlaced, Recalls, Row, Start, Count, Reads, Dots, GlyphScan}
 use Rattle.cases.specs.Screens.{alike, drawnAll, startOfRow, countOfRow}
 use Rattle.cases.specs.Memories.{storedByZ80, storedBy8088}
 use Rattle.cases.specs.Ports.{writtenAll, recalls}
 use Rattle.cases.specs.Mends.{marked, mendedRow}
+use Rattle.cases.specs.Dots.{litDots, everyByte, scanShown, digits80, digits132, litByBits, underDigits, printed}
 
 -- P1 to P6
 unfoldable pub screens : List Case
@@ -74,5 +75,44 @@ mends =
     -- P13: screen FF then 00s, attribute all 03; store 01 at place 2: row 1 torn at 256; marks rows 1 to 23, not 0
     record { gives = mendedRow 1 (0xFF ∷ []) 0x03 2 0x01; says = Row 1 256 3 tornCount ∷ marked 1 23 } ∷ []
 
+-- P10, P11, and 003, section 2.1.6.7
+unfoldable pub dots : List Case
+dots =
+    -- P10: glyph byte A5: 1010010111 at 80; 101001011 at 132
+    record {
+      gives = Dots (litDots false normal (everyByte 0xA5) 1 10) ∷ [];
+      says = Dots (1 ∷ 0 ∷ 1 ∷ 0 ∷ 0 ∷ 1 ∷ 0 ∷ 1 ∷ 1 ∷ 1 ∷ []) ∷ [];
+    }
+    ∷ record {
+      gives = Dots (litDots true normal (everyByte 0xA5) 1 9) ∷ [];
+      says = Dots (1 ∷ 0 ∷ 1 ∷ 0 ∷ 0 ∷ 1 ∷ 0 ∷ 1 ∷ 1 ∷ []) ∷ [];
+    }
+    -- P11: top half, scan 10; bottom, scans 1 and 7: glyph scans 5; 6 and 9
+    ∷ record { gives = GlyphScan (scanShown topHalf 10) ∷ []; says = GlyphScan 5 ∷ [] }
+    ∷ record { gives = GlyphScan (scanShown bottomHalf 1) ∷ []; says = GlyphScan 6 ∷ [] }
+    ∷ record { gives = GlyphScan (scanShown bottomHalf 7) ∷ []; says = GlyphScan 9 ∷ [] }
+    -- 003: 76543210007654321000, bit by bit
+    ∷ record { gives = litByBits false normal 20; says = underDigits digits80 }
+    ∷ record { gives = litByBits true normal 18; says = underDigits digits132 }
+    -- 003: scan 4, address 2: -###-#####
+    ∷ record {
+      gives = Dots (litDots false normal printed 4 10) ∷ [];
+      says = Dots (0 ∷ 1 ∷ 1 ∷ 1 ∷ 0 ∷ 1 ∷ 1 ∷ 1 ∷ 1 ∷ 1 ∷ []) ∷ [];
+    }
+    ∷ record {
+      gives = Dots (litDots true normal printed 4 9) ∷ [];
+      says = Dots (0 ∷ 1 ∷ 1 ∷ 1 ∷ 0 ∷ 1 ∷ 1 ∷ 1 ∷ 1 ∷ []) ∷ [];
+    }
+    -- 003: scan 7, address 5: ###-######
+    ∷ record {
+      gives = Dots (litDots false normal printed 7 10) ∷ [];
+      says = Dots (1 ∷ 1 ∷ 1 ∷ 0 ∷ 1 ∷ 1 ∷ 1 ∷ 1 ∷ 1 ∷ 1 ∷ []) ∷ [];
+    }
+    ∷ record {
+      gives = Dots (litDots true normal printed 7 9) ∷ [];
+      says = Dots (1 ∷ 1 ∷ 1 ∷ 0 ∷ 1 ∷ 1 ∷ 1 ∷ 1 ∷ 1 ∷ []) ∷ [];
+    }
+    ∷ []
+
 unfoldable pub table : List Case
-table = screens ++ stores ++ writes ++ mends
+table = screens ++ stores ++ writes ++ mends ++ dots

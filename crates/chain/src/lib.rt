@@ -5,7 +5,7 @@ ghost use mathlib.Core.Path.{_≡_};
 ghost use lib.ListN.{length};
 ghost use Rattle.lent.specs.Lengths.{screenBytes, attributeBytes};
 ghost use Rattle.chain.specs.Searching.{hasFF, Sought};
-ghost use Rattle.chain.specs.Chain.{places, byteAt, capacity, first, firstFF, link};
+ghost use Rattle.chain.specs.Chain.{places, byteAt, wide, capacity, first, firstFF, link};
 
 // There are always so many rows.
 pub const ROWS: usize = 24;
@@ -13,6 +13,10 @@ pub const ROWS: usize = 24;
 pub const TERMINATOR: u8 = 0xFF;
 // The one kind that is not wide, in bits 1 and 0.
 const NORMAL: u8 = 3;
+
+pub const TOP_HALF: u8 = 1;
+
+pub const BOTTOM_HALF: u8 = 0;
 // So many bytes are looked at together.
 const TOGETHER: usize = 16;
 
@@ -52,15 +56,17 @@ pub fn byte_at(memory: &[u8], place: usize) -> u8
     memory[place % lent::SCREEN_BYTES]
 }
 
+pub fn is_wide(kind: u8) -> bool
+    ensures { λ r. ⌜ r ≡ wide kind ⌝ }
+{
+    kind % 4 < NORMAL
+}
+
 pub fn capacity(columns: usize, kind: u8) -> usize
     ensures { λ r. ⌜ r ≡ capacity columns kind ⌝ }
     ensures { λ r. ⌜ r ≤ columns ⌝ }
 {
-    if kind % 4 < NORMAL {
-        columns / 2
-    } else {
-        columns
-    }
+    if is_wide(kind) { columns / 2 } else { columns }
 }
 
 // Whether one of these bytes is the terminator. The loop has no way out but its end, so that the bytes

@@ -13,6 +13,9 @@ screenBytes = 4096
 abbrev pub attributeBytes : ℕ
 attributeBytes = 4096
 
+abbrev pub glyphBytes : ℕ
+glyphBytes = 4096
+
 abbrev pub nvmBytes : ℕ
 nvmBytes = 256
 
@@ -21,3 +24,6 @@ shadowBytes = 256
 
 abbrev pub pictureBytes : ℕ
 pictureBytes = 6432
+
+abbrev pub lineBytes : ℕ
+lineBytes = 1188

@@ -14,11 +14,15 @@ pub const SCREEN_BYTES: usize = 4096;
 
 pub const ATTRIBUTE_BYTES: usize = 4096;
 
+pub const GLYPH_BYTES: usize = 4096;
+
 pub const NVM_BYTES: usize = 256;
 
 pub const SHADOW_BYTES: usize = 256;
 
 pub const PICTURE_BYTES: usize = 6432;
+
+pub const LINE_BYTES: usize = 1188;
 
 // The refusal of a call that is accepted.
 pub const ACCEPTED: u8 = 0;
@@ -30,7 +34,7 @@ pub const ADDRESS: u8 = 2;
 pub const PORT: u8 = 3;
 // The code is not in that port's list.
 pub const CODE: u8 = 4;
-// A shadow place over 255.
+// A row over 23, a scan outside 1 to 10, a shadow place over 255.
 pub const PLACE: u8 = 5;
 // Bits 6 and 7 of 0A both rise in one write.
 pub const EDGES: u8 = 6;

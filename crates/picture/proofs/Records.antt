@@ -1,19 +1,20 @@
 -- Laws about records one after the other: how long they are, which is which, and that a picture is its records.
 use Prim.Native.Nat.{ℕ, zero, suc, _+_, _-_, _*_, _≤_, _<_}
-use mathlib.Core.Path.{_≡_, refl, sym, ap, _∙_}
-use mathlib.Core.List.{List, _++_, append-assoc}
+use mathlib.Core.Path.{_≡_, refl, _∙_}
+use mathlib.Core.List.{List, _++_}
 use mathlib.Core.Bool.{Bool, true, false}
 use native.Mathlib.Nat.{suc-mul}
 use native.Mathlib.Omega.{arith}
 use lib.ListN.{length, take, drop, length-append, length-drop}
-use lib.Seq.{take-all, take-add, take-append-le, drop-append-le, drop-at, take-at, length-take-le}
+use lib.Seq.{take-all, take-add, take-append-le, drop-append-le, drop-at}
 use lib.Dec.{eqb}
 use borrow.Author.Tests.{eqb-true, eqb-false}
-use borrow.Rule.Slice.PartMut.{midOf, putMid, mid-len, same-len-mid, drop-put}
+use borrow.Rule.Slice.PartMut.{midOf, putMid}
 use Rattle.lent.specs.Lengths.{pictureBytes}
 use Rattle.chain.specs.Chain.{rows}
 use Rattle.records.specs.Record.{recordBytes}
 use Rattle.picture.specs.Picture.{inOrder, recordIn}
+use Rattle.picture.proofs.Parts.{part-lent, part-back, part-put, part-left}
 
 -- the same records one after the other
 pub same-records :
@@ -68,12 +69,12 @@ module _ (f : ℕ → List ℕ) where
 
 -- the record of a row is lent, and something of its length comes back
 module _ (picture : List ℕ) (row : ℕ) (long : length picture ≡ pictureBytes) (more : row < rows) where
+  room : row * recordBytes + recordBytes ≤ length picture
+  room = omega arith
+
   pub record-lent :
       length (midOf (row * recordBytes) (row * recordBytes + recordBytes - row * recordBytes) picture) ≡ recordBytes
-  record-lent =
-      let at = row * recordBytes in
-      let part : at + recordBytes - at ≡ recordBytes = omega arith in
-      mid-len at (at + recordBytes) picture (omega arith) ∙ part
+  record-lent = part-lent picture (row * recordBytes) recordBytes room
 
 module _
     (picture new : List ℕ)
@@ -81,29 +82,20 @@ module _
     (long : length picture ≡ pictureBytes)
     (more : row < rows)
     (same : length new ≡ recordBytes) where
+  after : (row + 1) * recordBytes ≡ row * recordBytes + recordBytes
+  after = omega arith
+
   pub record-back :
       length (putMid (row * recordBytes) (row * recordBytes + recordBytes - row * recordBytes) picture new) ≡ pictureBytes
-  record-back =
-      let at = row * recordBytes in
-      same-len-mid at (at + recordBytes - at) picture new (same ∙ sym (record-lent picture row long more)) ∙ long
+  record-back = part-back picture (row * recordBytes) recordBytes (room picture row long more) new same ∙ long
 
   -- it comes after the records before it, and ahead of those after it
   pub record-put :
       take ((row + 1) * recordBytes) (putMid (row * recordBytes) (row * recordBytes + recordBytes - row * recordBytes) picture new)
       ≡ take (row * recordBytes) picture ++ new
-  record-put =
-      let at = row * recordBytes in
-      let k = at + recordBytes - at in
-      let after : (row + 1) * recordBytes ≡ at + recordBytes = omega arith in
-      let ahead = length-append (take at picture) new ∙ ap (λ (n : ℕ). n + length new) (length-take-le at picture (omega arith)) in
-      rw (after, ← append-assoc (take at picture) new (drop k (drop at picture)))
-      (take-at (take at picture ++ new) (drop k (drop at picture)) (at + recordBytes) (ahead ∙ ap (λ (n : ℕ). at + n) same))
+  record-put = rw after (part-put picture (row * recordBytes) recordBytes (room picture row long more) new same)
 
   pub record-left :
       drop ((row + 1) * recordBytes) (putMid (row * recordBytes) (row * recordBytes + recordBytes - row * recordBytes) picture new)
       ≡ drop ((row + 1) * recordBytes) picture
-  record-left =
-      let at = row * recordBytes in
-      let after : (row + 1) * recordBytes ≡ at + recordBytes = omega arith in
-      let part : at + recordBytes - at ≡ recordBytes = omega arith in
-      rw after (drop-put at (at + recordBytes) picture new (omega arith) (omega arith) (same ∙ sym part))
+  record-left = rw after (part-left picture (row * recordBytes) recordBytes (room picture row long more) new same)

@@ -15,7 +15,7 @@ use chain::Terminator;
 
 pub const RECORD_BYTES: usize = 268;
 // The bytes of a record ahead of its pairs.
-const HEAD_BYTES: usize = 4;
+pub const HEAD_BYTES: usize = 4;
 
 const RECORD_PAIRS: usize = 132;
 // The count of a torn row, and of a dark one.

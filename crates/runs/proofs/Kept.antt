@@ -16,7 +16,7 @@ use Rattle.mending.specs.Store.{lengthsWithPicture, storeWithPicture}
 use Rattle.mending.specs.True.{TruePicture}
 use Rattle.mending.proofs.Outcome.{lent-with-picture, refused-outcome}
 use Rattle.mending.proofs.True.{keeps-true}
-use Rattle.runs.specs.World.{World, Call, Read8088, Store8088, ReadZ80, StoreZ80, ReadShadow, WriteShadow, WritePort, VerticalTick, Draw, StoreWithPicture, after, answer}
+use Rattle.runs.specs.World.{World, Call, Read8088, Store8088, ReadZ80, StoreZ80, ReadShadow, WriteShadow, WritePort, VerticalTick, Draw, StoreWithPicture, DrawLine, after, answer}
 use Rattle.runs.specs.Kept.{inRuns, allInRuns, sameColumns, played, playedAll, Kept, KeptByRuns, KeptFromDrawing, LeaveTheScreen}
 use Rattle.runs.proofs.Choice.{either}
 
@@ -35,6 +35,7 @@ leave-the-screen (WriteShadow p b) w h = (refl, refl)
 leave-the-screen (WritePort p k) w h = (refl, refl)
 leave-the-screen VerticalTick w h = (refl, refl)
 leave-the-screen Draw w h = (refl, refl)
+leave-the-screen (DrawLine r s) w h = (refl, refl)
 
 -- what a call of a run keeps
 record Keeps (w v : World) : Type 0 where
@@ -139,6 +140,7 @@ one-keeps (ReadShadow p) w h k = quiet-keeps (ReadShadow p) w refl refl refl k
 one-keeps (WriteShadow p b) w h k = quiet-keeps (WriteShadow p b) w refl refl refl k
 one-keeps (WritePort p c) w h k = quiet-keeps (WritePort p c) w refl refl refl k
 one-keeps VerticalTick w h k = quiet-keeps VerticalTick w refl refl refl k
+one-keeps (DrawLine r s) w h k = quiet-keeps (DrawLine r s) w refl refl refl k
 
 -- what a drawing answers
 drawing-answers : (w : World) → answer Draw w .refusal ≡ cond (drawable w) accepted lengthRefused

@@ -25,6 +25,11 @@ use Rattle.picture.proofs.draw.Reads as draw
 use Rattle.listing.specs.Listing.{listed}
 use Rattle.listing.proofs.list_rows.Reads as list-rows
 use Rattle.marks.proofs.is_marked.Reads as is-marked
+use Rattle.glyphs.proofs.part.Reads as part
+use Rattle.glyphs.proofs.refusal.Reads as part-refusal
+use Rattle.scan_line.specs.Call.{drawnLine}
+use Rattle.scan_line.proofs.dots_of_line.Reads as dots-of-line
+use Rattle.scan_line.proofs.draw.Reads as draw-line
 use Rattle.mending.specs.Store.{storedWithPicture}
 use Rattle.mending.proofs.store_with_picture.Reads as store-with-picture
 
@@ -84,6 +89,19 @@ store-with-picture-once κs a r r′ s s′ = no-second
 
 pub is-marked-once : Once is-marked.Post (λ κs r s. r)
 is-marked-once κs a r r′ s s′ = no-second
+
+pub part-once : Once part.Post (λ κs r s. now r)
+part-once κs a r r′ s s′ = no-second
+
+pub part-refusal-once : Once part-refusal.Post (λ κs r s. r)
+part-refusal-once κs a r r′ s s′ = no-second
+
+pub draw-line-once : Once draw-line.Post (λ κs r s. drawnLine r (now (s .1 .1 .1 .1 .1 .0)))
+draw-line-once κs a r r′ s s′ = no-second
+
+-- that they fit a line follows from the first clause
+pub dots-of-line-once : Once dots-of-line.Post (λ κs r s. r)
+dots-of-line-once κs a r r′ s s′ p q = no-second (p .0) (q .0)
 
 -- the length of the text follows from the first clause of this promise
 pub list-rows-once : Once list-rows.Post (λ κs r s. listed r (now (s .1 .1 .1 .0)) (now (s .1 .1 .1 .1 .0)))

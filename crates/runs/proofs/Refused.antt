@@ -23,7 +23,8 @@ use Rattle.diagnostic.specs.Diagnostic.{WrittenPort, writtenPort, writeDiagnost
 use Rattle.ports.specs.Ports.{lengthsNvm, watched, writePort}
 use Rattle.picture.specs.Draw.{lengthsPicture, DrawnPicture}
 use Rattle.mending.specs.Store.{StoredWithPicture, refusalWithPicture, mendWithPicture, refuseWithPicture}
-use Rattle.runs.specs.World.{World, Read8088, Store8088, ReadZ80, StoreZ80, ReadShadow, WriteShadow, WritePort, VerticalTick, Draw, StoreWithPicture, left8088, leftZ80, leftPort, leftDraw, leftWithPicture, after, answer}
+use Rattle.scan_line.specs.Call.{lengthsLine, onTube, DrawnLine}
+use Rattle.runs.specs.World.{World, Read8088, Store8088, ReadZ80, StoreZ80, ReadShadow, WriteShadow, WritePort, VerticalTick, Draw, StoreWithPicture, DrawLine, left8088, leftZ80, leftPort, leftDraw, leftWithPicture, leftLine, after, answer}
 use Rattle.runs.specs.Refused.{ChangesNothing}
 use Rattle.runs.proofs.Choice.{either}
 
@@ -143,3 +144,11 @@ changes-nothing (StoreWithPicture a b) w h =
     KeptStore : StoredWithPicture → Type 0
     KeptStore left =
         (left .answer .refusal ≡ accepted → ⊥) → (leftWithPicture w left ≡ w) × (left .answer .marks ≡ 0)
+changes-nothing (DrawLine r s) w h = (
+  either KeptLine (lengthsLine (length (w .picture)) (length (w .glyphs)) (length (w .line))) _ _
+      (λ _. either KeptLine (onTube r s) _ _ (λ _ g. absurd (g refl)) (λ _ g. refl)) (λ _ g. refl) h,
+  refl,
+)
+  where
+    KeptLine : DrawnLine → Type 0
+    KeptLine left = (left .refusal ≡ accepted → ⊥) → leftLine w (left .line) ≡ w

@@ -8,7 +8,7 @@ use lib.Dec.{eqb}
 use Rattle.machine.specs.declared.Machine.{Machine}
 use Rattle.diagnostic.specs.Diagnostic.{WrittenPort, rises, writeDiagnostic}
 use Rattle.ports.specs.Ports.{lengthsNvm}
-use Rattle.runs.specs.World.{Read8088, Store8088, ReadZ80, StoreZ80, ReadShadow, WriteShadow, WritePort, VerticalTick, Draw, StoreWithPicture}
+use Rattle.runs.specs.World.{Read8088, Store8088, ReadZ80, StoreZ80, ReadShadow, WriteShadow, WritePort, VerticalTick, Draw, StoreWithPicture, DrawLine}
 use Rattle.runs.specs.Shadow.{NothingElse, MovesAll}
 use Rattle.runs.proofs.Choice.{either}
 
@@ -37,6 +37,7 @@ nothing-else (ReadShadow place) w h = refl
 nothing-else VerticalTick w h = refl
 nothing-else Draw w h = refl
 nothing-else (StoreWithPicture address byte) w h = refl
+nothing-else (DrawLine row scan) w h = refl
 
 pub moves-all : MovesAll
 moves-all w code lent = (

@@ -17,7 +17,7 @@ use Rattle.memories.specs.declared.view8088.Seen.{Seen}
 use Rattle.memories.specs.declared.view8088.Seen.the-variants.{Shared, Screen, Attribute, Nowhere}
 use Rattle.memories.proofs.Laws.{lentZ80, placed}
 use Rattle.mending.specs.Store.{StoredWithPicture, refusalWithPicture, mendWithPicture, refuseWithPicture}
-use Rattle.runs.specs.World.{World, Call, Read8088, Store8088, ReadZ80, StoreZ80, ReadShadow, WriteShadow, WritePort, VerticalTick, Draw, StoreWithPicture, leftZ80, leftWithPicture, after, answer}
+use Rattle.runs.specs.World.{World, Call, Read8088, Store8088, ReadZ80, StoreZ80, ReadShadow, WriteShadow, WritePort, VerticalTick, Draw, StoreWithPicture, DrawLine, leftZ80, leftWithPicture, after, answer}
 use Rattle.runs.specs.Z80.{OnlyAt, ChangesOneByte, OnlyItsOwn, Agree, isZ80, outside, unseenByZ80, Both, First, Second, SameAnswers}
 use Rattle.runs.proofs.Choice.{either}
 
@@ -70,6 +70,8 @@ only-its-own (StoreZ80 a b) w h =
       nvm = refl;
       shadow = refl;
       picture = refl;
+      glyphs = refl;
+      line = refl;
     }
   where
     Below : StoredZ80 → Type 0
@@ -83,6 +85,8 @@ only-its-own (ReadZ80 a) w h =
       nvm = refl;
       shadow = refl;
       picture = refl;
+      glyphs = refl;
+      line = refl;
     }
 only-its-own (Read8088 a) w h = absurd (false≢true h)
 only-its-own (Store8088 a b) w h = absurd (false≢true h)
@@ -92,6 +96,7 @@ only-its-own (WritePort p k) w h = absurd (false≢true h)
 only-its-own VerticalTick w h = absurd (false≢true h)
 only-its-own Draw w h = absurd (false≢true h)
 only-its-own (StoreWithPicture a b) w h = absurd (false≢true h)
+only-its-own (DrawLine r s) w h = absurd (false≢true h)
 
 -- what lies from 0800 up is the same byte at each such address
 same-from :
@@ -160,6 +165,7 @@ module _ (w v : World) (same : Agree w v) where
   z80 VerticalTick h = absurd (false≢true h)
   z80 Draw h = absurd (false≢true h)
   z80 (StoreWithPicture a b) h = absurd (false≢true h)
+  z80 (DrawLine r s) h = absurd (false≢true h)
 
 agree-sym : {w v : World} → Agree w v → Agree v w
 agree-sym h =
@@ -223,6 +229,7 @@ unseen (WriteShadow p b) w h = record { private = refl; shared-length = refl; fr
 unseen (WritePort p k) w h = record { private = refl; shared-length = refl; from0800 = refl }
 unseen VerticalTick w h = record { private = refl; shared-length = refl; from0800 = refl }
 unseen Draw w h = record { private = refl; shared-length = refl; from0800 = refl }
+unseen (DrawLine r s) w h = record { private = refl; shared-length = refl; from0800 = refl }
 unseen (ReadZ80 a) w h = absurd (false≢true h)
 unseen (StoreZ80 a b) w h = absurd (false≢true h)
 

@@ -7,7 +7,7 @@ use mathlib.Core.Bool.{Bool, true, false, not, cond, _&&_}
 use Rattle.lent.specs.Refusals.{accepted}
 use Rattle.picture.specs.Picture.{pictureOf}
 use Rattle.picture.specs.Draw.{chainOf}
-use Rattle.runs.specs.World.{World, Call, Read8088, Store8088, ReadZ80, StoreZ80, ReadShadow, WriteShadow, WritePort, VerticalTick, Draw, StoreWithPicture, after, answer}
+use Rattle.runs.specs.World.{World, Call, Read8088, Store8088, ReadZ80, StoreZ80, ReadShadow, WriteShadow, WritePort, VerticalTick, Draw, StoreWithPicture, DrawLine, after, answer}
 
 -- "A store with no picture .. is not in demand 3's runs". Every other call is, though the demand names three alone.
 abbrev pub inRuns : Call → Bool
@@ -21,6 +21,7 @@ inRuns (WritePort port code) = true
 inRuns VerticalTick = true
 inRuns Draw = true
 inRuns (StoreWithPicture address byte) = true
+inRuns (DrawLine row scan) = true
 
 abbrev pub allInRuns : List Call → Bool
 allInRuns [] = true
@@ -68,6 +69,7 @@ storesByThe8088 (WriteShadow place value) = false
 storesByThe8088 (WritePort port code) = false
 storesByThe8088 VerticalTick = false
 storesByThe8088 Draw = false
+storesByThe8088 (DrawLine row scan) = false
 
 abbrev pub LeaveTheScreen : Type 0
 LeaveTheScreen =

@@ -6,7 +6,7 @@ use lib.ListN.{length}
 use lib.Dec.{eqb}
 use Rattle.diagnostic.specs.Diagnostic.{rises}
 use Rattle.ports.specs.Ports.{lengthsNvm}
-use Rattle.runs.specs.World.{World, Call, Read8088, Store8088, ReadZ80, StoreZ80, ReadShadow, WriteShadow, WritePort, VerticalTick, Draw, StoreWithPicture, after}
+use Rattle.runs.specs.World.{World, Call, Read8088, Store8088, ReadZ80, StoreZ80, ReadShadow, WriteShadow, WritePort, VerticalTick, Draw, StoreWithPicture, DrawLine, after}
 
 -- "a write", or "a recall": a write to port 0A in which bit 7 goes from 0 to 1
 abbrev pub writesOrRecalls : Call → World → Bool
@@ -20,6 +20,7 @@ writesOrRecalls (ReadShadow place) w = false
 writesOrRecalls VerticalTick w = false
 writesOrRecalls Draw w = false
 writesOrRecalls (StoreWithPicture address byte) w = false
+writesOrRecalls (DrawLine row scan) w = false
 
 -- "Nothing else changes it but a recall."
 abbrev pub NothingElse : Type 0

@@ -12,6 +12,7 @@ use Rattle.shadow.specs.Shadow.{readShadow, writeShadow}
 use Rattle.ports.specs.Ports.{writePort}
 use Rattle.picture.specs.Draw.{draw}
 use Rattle.mending.specs.Store.{storeWithPicture, StoredWithPicture}
+use Rattle.scan_line.specs.Call.{drawLine}
 
 -- the machine and the memories that a user keeps and lends
 pub record World : Type 0 where
@@ -23,6 +24,8 @@ pub record World : Type 0 where
   pub nvm : List ℕ
   pub shadow : List ℕ
   pub picture : List ℕ
+  pub glyphs : List ℕ
+  pub line : List ℕ
 
 -- a call with its numbers
 pub data Call : Type 0 where
@@ -36,6 +39,7 @@ pub data Call : Type 0 where
   VerticalTick : Call
   Draw : Call
   StoreWithPicture : (address byte : ℕ) → Call
+  DrawLine : (row scan : ℕ) → Call
 
 -- the world with what a call left in place of what it was lent
 abbrev pub left8088 : World → Stored8088 → World
@@ -49,6 +53,8 @@ left8088 w left =
       nvm = w .nvm;
       shadow = w .shadow;
       picture = w .picture;
+      glyphs = w .glyphs;
+      line = w .line;
     }
 
 abbrev pub leftZ80 : World → StoredZ80 → World
@@ -62,6 +68,8 @@ leftZ80 w left =
       nvm = w .nvm;
       shadow = w .shadow;
       picture = w .picture;
+      glyphs = w .glyphs;
+      line = w .line;
     }
 
 abbrev pub leftPort : World → Machine → List ℕ → List ℕ → World
@@ -75,6 +83,8 @@ leftPort w machine shadow nvm =
       nvm = nvm;
       shadow = shadow;
       picture = w .picture;
+      glyphs = w .glyphs;
+      line = w .line;
     }
 
 abbrev pub leftDraw : World → List ℕ → World
@@ -88,6 +98,8 @@ leftDraw w picture =
       nvm = w .nvm;
       shadow = w .shadow;
       picture = picture;
+      glyphs = w .glyphs;
+      line = w .line;
     }
 
 abbrev pub leftWithPicture : World → StoredWithPicture → World
@@ -101,6 +113,23 @@ leftWithPicture w left =
       nvm = w .nvm;
       shadow = w .shadow;
       picture = left .picture;
+      glyphs = w .glyphs;
+      line = w .line;
+    }
+
+abbrev pub leftLine : World → List ℕ → World
+leftLine w line =
+    record {
+      machine = w .machine;
+      shared = w .shared;
+      private = w .private;
+      screen = w .screen;
+      attribute = w .attribute;
+      nvm = w .nvm;
+      shadow = w .shadow;
+      picture = w .picture;
+      glyphs = w .glyphs;
+      line = line;
     }
 
 -- the world after a call
@@ -118,6 +147,7 @@ after VerticalTick w = leftPort w (verticalTick (w .machine)) (w .shadow) (w .nv
 after Draw w = leftDraw w (draw (w .machine) (w .screen) (w .attribute) (w .picture) .picture)
 after (StoreWithPicture address byte) w =
     leftWithPicture w (storeWithPicture (w .machine) (w .shared) (w .screen) (w .attribute) (w .picture) address byte)
+after (DrawLine row scan) w = leftLine w (drawLine (w .machine) (w .picture) (w .glyphs) row scan (w .line) .line)
 
 -- what a call answers: its number of refusal and its other number, the byte read, the bytes that the walk read or the marks, 0
 -- where it has none
@@ -136,3 +166,4 @@ answer Draw w =
 answer (StoreWithPicture address byte) w =
     let left = storeWithPicture (w .machine) (w .shared) (w .screen) (w .attribute) (w .picture) address byte in
     record { refusal = left .answer .refusal; byte = left .answer .marks }
+answer (DrawLine row scan) w = readRefused (drawLine (w .machine) (w .picture) (w .glyphs) row scan (w .line) .refusal)

@@ -8,7 +8,7 @@ use lib.Dec.{eqb, ltb}
 use Rattle.lent.specs.Lengths.{sharedBytes}
 use Rattle.lent.specs.declared.ByteRead.{ByteRead}
 use Rattle.memories.specs.ViewZ80.{isPrivate, lengthsZ80, storeZ80}
-use Rattle.runs.specs.World.{World, Call, Read8088, Store8088, ReadZ80, StoreZ80, ReadShadow, WriteShadow, WritePort, VerticalTick, Draw, StoreWithPicture, after, answer}
+use Rattle.runs.specs.World.{World, Call, Read8088, Store8088, ReadZ80, StoreZ80, ReadShadow, WriteShadow, WritePort, VerticalTick, Draw, StoreWithPicture, DrawLine, after, answer}
 
 -- a memory as it was but for one place, where it holds a byte if the test holds
 abbrev pub OnlyAt : Bool → ℕ → ℕ → List ℕ → List ℕ → Type 0
@@ -41,6 +41,7 @@ isZ80 (WritePort port code) = false
 isZ80 VerticalTick = false
 isZ80 Draw = false
 isZ80 (StoreWithPicture address byte) = false
+isZ80 (DrawLine row scan) = false
 
 -- "The Z80 reads and writes only its own 2 KB and the 62 KB that it shares": of the world a Z80 call leaves all but private
 -- memory and shared memory from 0800 up
@@ -52,6 +53,8 @@ pub record LeavesTheRest (w v : World) : Type 0 where
   pub nvm : v .nvm ≡ w .nvm
   pub shadow : v .shadow ≡ w .shadow
   pub picture : v .picture ≡ w .picture
+  pub glyphs : v .glyphs ≡ w .glyphs
+  pub line : v .line ≡ w .line
 
 abbrev pub OnlyItsOwn : Type 0
 OnlyItsOwn = (call : Call) (w : World) → isZ80 call ≡ true → LeavesTheRest w (after call w)
@@ -72,6 +75,7 @@ unseenByZ80 (WriteShadow place value) = true
 unseenByZ80 (WritePort port code) = true
 unseenByZ80 VerticalTick = true
 unseenByZ80 Draw = true
+unseenByZ80 (DrawLine row scan) = true
 
 -- two runs side by side: a Z80 call that both make, or a call of one of them alone that the Z80 cannot see
 pub data Turn : Type 0 where

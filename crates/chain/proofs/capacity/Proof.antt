@@ -1,21 +1,20 @@
-use Prim.Native.Nat.{_%_, _≤_, _<_}
+use mathlib.Core.Path.{sym, _∙_}
 use native.Mathlib.Omega.{arith}
-use borrow.Author.Tests.{lt-ltb, le-ltb}
-use Rattle.chain.specs.Chain.{normal, capacity}
+use borrow.Author.Needs.{needs}
+use Rattle.chain.specs.Chain.{capacity}
 use Rattle.chain.proofs.capacity.Statement.{statement}
 use Rattle.chain.proofs.capacity.Tie as tie
 
+is-wide-requires : tie.Need-is-wide-requires
+is-wide-requires c κs = search needs
+
 returns : tie.Need-returns
 unfolding capacity
-returns c =
-    let wide : c .before .args .kind % 4 < normal = omega arith in
-    (rw (lt-ltb _ _ wide), omega arith)
+returns c = (rw (sym (c .before .is-wide .ensures) ∙ c .if1 .taken), omega arith)
 
 returns-2 : tie.Need-returns-2
 unfolding capacity
-returns-2 c =
-    let whole : normal ≤ c .before .args .kind % 4 = omega arith in
-    (rw (le-ltb _ _ whole), omega arith)
+returns-2 c = (rw (sym (c .before .is-wide .ensures) ∙ c .if1 .left), omega arith)
 
 pub capacity-spec : {M : Type 1} → statement M
-capacity-spec = tie.close (tie.spec returns returns-2)
+capacity-spec = tie.close (tie.spec is-wide-requires returns returns-2)

@@ -1,0 +1,58 @@
+use lib.ListN.{length}
+use Prim.Native.Nat.{ℕ, _-_}
+use Rattle.dots.specs.Shades.{bitShaded}
+use Rattle.dots.proofs.Drawing.{inTurn, once, Drawn, none-drawn, one-drawn, all-drawn}
+use borrow.Author.Needs.{needs}
+use Rattle.dots.proofs.draw_eight.Statement.{statement}
+use Rattle.dots.proofs.draw_eight.Tie as tie
+
+abbrev Inv-loop : tie.InvT-loop
+Inv-loop shades glyph into₀ dot₀ into dot =
+    Drawn 1 (once (λ (n : ℕ). bitShaded shades glyph (7 - n))) (length into₀) into dot
+
+abbrev μ-loop : tie.MeasureT-loop
+μ-loop shades glyph into₀ dot₀ into dot = 8 - dot
+
+loop-holds : tie.Need-loop-holds Inv-loop μ-loop
+loop-holds c = none-drawn 1 _ _ (search needs)
+
+sub-shade-bit : tie.Need-sub-shade-bit Inv-loop μ-loop
+sub-shade-bit c = search needs
+
+shade-bit-requires : tie.Need-shade-bit-requires Inv-loop μ-loop
+shade-bit-requires c κs = search needs
+
+slice-write-into : tie.Need-slice-write-into Inv-loop μ-loop
+slice-write-into c = search needs
+
+add-dot : tie.Need-add-dot Inv-loop μ-loop
+add-dot c = search needs
+
+loop-less : tie.Need-loop-less Inv-loop μ-loop
+loop-less c = search needs
+
+loop-again : tie.Need-loop-again Inv-loop μ-loop
+loop-again c = one-drawn (c .before .before .loop .inv) (search needs) (c .shade-bit .ensures)
+
+same-length : tie.Need-same-length Inv-loop μ-loop
+same-length c = c .before .loop .inv .same
+
+returns : tie.Need-returns Inv-loop μ-loop
+unfolding inTurn
+returns c = all-drawn (c .before .loop .inv) (search needs)
+
+pub draw-eight-spec : {M : Type 1} → statement M
+draw-eight-spec =
+    tie.close
+    (tie.spec
+    Inv-loop
+    μ-loop
+    loop-holds
+    sub-shade-bit
+    shade-bit-requires
+    slice-write-into
+    add-dot
+    loop-less
+    loop-again
+    same-length
+    returns)

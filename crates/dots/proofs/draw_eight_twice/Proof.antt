@@ -1,0 +1,75 @@
+use Rattle.dots.specs.Cell.{twice}
+use lib.ListN.{length, length-set}
+use Prim.Native.Nat.{ℕ, _-_}
+use Rattle.dots.specs.Shades.{bitShaded}
+use Rattle.dots.proofs.Drawing.{inTurn, both, Drawn, none-drawn, two-drawn, all-drawn}
+use borrow.Author.Needs.{needs}
+use Rattle.dots.proofs.draw_eight_twice.Statement.{statement}
+use Rattle.dots.proofs.draw_eight_twice.Tie as tie
+
+abbrev Inv-loop : tie.InvT-loop
+Inv-loop shades glyph into₀ dot₀ into dot =
+    Drawn 2 (both (λ (n : ℕ). bitShaded shades glyph (7 - n))) (length into₀) into dot
+
+abbrev μ-loop : tie.MeasureT-loop
+μ-loop shades glyph into₀ dot₀ into dot = 8 - dot
+
+loop-holds : tie.Need-loop-holds Inv-loop μ-loop
+loop-holds c = none-drawn 2 _ _ (search needs)
+
+sub-shade-bit : tie.Need-sub-shade-bit Inv-loop μ-loop
+sub-shade-bit c = search needs
+
+shade-bit-requires : tie.Need-shade-bit-requires Inv-loop μ-loop
+shade-bit-requires c κs = search needs
+
+mul-into : tie.Need-mul-into Inv-loop μ-loop
+mul-into c = search needs
+
+slice-write-into : tie.Need-slice-write-into Inv-loop μ-loop
+slice-write-into c = search needs
+
+mul-into-2 : tie.Need-mul-into-2 Inv-loop μ-loop
+mul-into-2 c = search needs
+
+add-into : tie.Need-add-into Inv-loop μ-loop
+add-into c = search needs
+
+slice-write-into-2 : tie.Need-slice-write-into-2 Inv-loop μ-loop
+slice-write-into-2 c = simp length-set (search needs)
+
+add-dot : tie.Need-add-dot Inv-loop μ-loop
+add-dot c = search needs
+
+loop-less : tie.Need-loop-less Inv-loop μ-loop
+loop-less c = search needs
+
+loop-again : tie.Need-loop-again Inv-loop μ-loop
+loop-again c = two-drawn (c .before .before .loop .inv) (search needs) (c .shade-bit .ensures)
+
+same-length : tie.Need-same-length Inv-loop μ-loop
+same-length c = c .before .loop .inv .same
+
+returns : tie.Need-returns Inv-loop μ-loop
+unfolding inTurn twice
+returns c = all-drawn (c .before .loop .inv) (search needs)
+
+pub draw-eight-twice-spec : {M : Type 1} → statement M
+draw-eight-twice-spec =
+    tie.close
+    (tie.spec
+    Inv-loop
+    μ-loop
+    loop-holds
+    sub-shade-bit
+    shade-bit-requires
+    mul-into
+    slice-write-into
+    mul-into-2
+    add-into
+    slice-write-into-2
+    add-dot
+    loop-less
+    loop-again
+    same-length
+    returns)

@@ -1,0 +1,3 @@
+pub mod Laws
+pub mod Row
+pub mod Clearing

@@ -1,0 +1,141 @@
+// A scan line of a row of the picture, as the tube shows it. Document 01, "Dots".
+ghost use Prim.Native.Nat.{_-_, _≤_, _<_};
+ghost use mathlib.Core.Path.{_≡_};
+ghost use mathlib.Core.List.{_++_};
+ghost use lib.ListN.{length, take, replicate};
+ghost use Rattle.lent.specs.Lengths.{glyphBytes, lineBytes};
+ghost use Rattle.chain.specs.Chain.{rows};
+ghost use Rattle.records.specs.Record.{recordBytes};
+ghost use Rattle.glyphs.specs.Scans.{firstScan, lastScan};
+ghost use Rattle.scan_line.specs.Line.{rowDots, dotsOfLine, showsNothing, lineOf};
+ghost use Rattle.scan_line.specs.Call.{lengthsLine, onTube, drawnLine, drawLine};
+use machine::Machine;
+
+fn lengths_line(picture: usize, table: usize, line: usize) -> bool
+    ensures { λ r. ⌜ r ≡ lengthsLine picture table line ⌝ }
+{
+    lent::three_lengths(
+        picture,
+        lent::PICTURE_BYTES,
+        table,
+        lent::GLYPH_BYTES,
+        line,
+        lent::LINE_BYTES,
+    )
+}
+
+fn is_on_tube(row: usize, scan: usize) -> bool
+    ensures { λ r. ⌜ r ≡ onTube row scan ⌝ }
+{
+    if row >= chain::ROWS {
+        return false;
+    }
+    if scan < glyphs::FIRST_SCAN {
+        return false;
+    }
+    scan <= glyphs::LAST_SCAN
+}
+
+// Whether the whole line is 0.
+fn shows_nothing(machine: Machine, count: u8) -> bool
+    ensures { λ r. ⌜ r ≡ showsNothing machine count ⌝ }
+{
+    if machine.blanked() {
+        return true;
+    }
+    if machine.graphics() {
+        return true;
+    }
+    count == records::DARK
+}
+
+// How many dots a line has.
+pub fn dots_of_line(machine: Machine) -> usize
+    ensures { λ r. ⌜ r ≡ dotsOfLine machine ⌝ }
+    ensures { λ r. ⌜ r ≤ lineBytes ⌝ }
+{
+    if machine.columns132 { 1188 } else { 800 }
+}
+
+// Makes the bytes from a place on 0.
+fn clear(line: &mut [u8], from: usize)
+    requires { ⌜ length (now line) ≡ lineBytes ⌝ }
+    requires { ⌜ from ≤ lineBytes ⌝ }
+    ensures { λ _. ⌜ now (line .exit) ≡ take from (now (line .entry)) ++ replicate (lineBytes - from) 0 ⌝ }
+{
+    let mut at = from;
+    while at < lent::LINE_BYTES {
+        line[at] = 0;
+        at += 1;
+    }
+}
+
+// Draws the record's first pairs, as many as its kind has cells.
+fn draw_row(machine: Machine, bytes: &[u8], table: &[u8], scan: usize, line: &mut [u8])
+    requires { ⌜ length (now bytes) ≡ recordBytes ⌝ }
+    requires { ⌜ length (now table) ≡ glyphBytes ⌝ }
+    requires { ⌜ (firstScan ≤ scan) × (scan ≤ lastScan) ⌝ }
+    requires { ⌜ length (now line) ≡ lineBytes ⌝ }
+    ensures { λ _. ⌜ take (dotsOfLine machine) (now (line .exit))
+        ≡ rowDots machine (now (table .entry)) (now (bytes .entry)) scan ⌝ }
+{
+    let kind = bytes[2] % 8;
+    let shown = glyphs::glyph_scan(kind, scan);
+    let address = glyphs::scan_address(shown);
+    let width = dots::cell_width(machine, kind);
+    let cells = chain::capacity(machine.columns(), kind);
+    let mut cell = 0;
+    while cell < cells {
+        let pair = records::HEAD_BYTES + 2 * cell;
+        let glyph = glyphs::byte(table, bytes[pair], address);
+        let attribute = bytes[pair + 1] % 16;
+        let at = cell * width;
+        let end = at + width;
+        dots::draw_cell(machine, kind, attribute, shown, glyph, &mut line[at..end]);
+        cell += 1;
+    }
+}
+
+fn draw_record(machine: Machine, bytes: &[u8], table: &[u8], scan: usize, line: &mut [u8])
+    requires { ⌜ length (now bytes) ≡ recordBytes ⌝ }
+    requires { ⌜ length (now table) ≡ glyphBytes ⌝ }
+    requires { ⌜ (firstScan ≤ scan) × (scan ≤ lastScan) ⌝ }
+    requires { ⌜ length (now line) ≡ lineBytes ⌝ }
+    ensures { λ _. ⌜ now (line .exit) ≡ lineOf machine (now (table .entry)) (now (bytes .entry)) scan ⌝ }
+{
+    if shows_nothing(machine, bytes[3]) {
+        clear(line, 0);
+        return;
+    }
+    draw_row(machine, bytes, table, scan, line);
+    clear(line, dots_of_line(machine));
+}
+
+// The answer is the number of refusal, 0 where the line is drawn.
+pub fn draw(
+    machine: Machine,
+    picture: &[u8],
+    table: &[u8],
+    row: usize,
+    scan: usize,
+    line: &mut [u8],
+) -> u8
+    ensures { λ r. ⌜ drawnLine r (now (line .exit))
+        ≡ drawLine machine (now (picture .entry)) (now (table .entry)) row scan (now (line .entry)) ⌝ }
+{
+    if !lengths_line(picture.len(), table.len(), line.len()) {
+        return lent::LENGTH;
+    }
+    if !is_on_tube(row, scan) {
+        return lent::PLACE;
+    }
+    let at = row * records::RECORD_BYTES;
+    draw_record(
+        machine,
+        &picture[at..at + records::RECORD_BYTES],
+        table,
+        scan,
+        line,
+    );
+    lent::ACCEPTED
+}

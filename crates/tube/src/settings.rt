@@ -1,0 +1,82 @@
+// The settings that the arguments give, and the machine after the port writes that make them.
+use lent::NVM_BYTES;
+use lent::SHADOW_BYTES;
+use machine::Machine;
+
+pub struct Settings {
+    pub columns132: bool,
+    pub reverse: bool,
+    // The blink flip-flop is set.
+    pub blink: bool,
+    pub blanked: bool,
+    // An argument was none of these.
+    pub wrong: bool,
+}
+
+fn same(a: &[u8], b: &[u8]) -> bool {
+    if a.len() != b.len() {
+        return false;
+    }
+    for i in 0..a.len() {
+        if a[i] != b[i] {
+            return false;
+        }
+    }
+    true
+}
+
+fn with_word(before: Settings, word: &[u8]) -> Settings {
+    let mut settings = before;
+    if same(word, b"132") {
+        settings.columns132 = true;
+        return settings;
+    }
+    if same(word, b"reverse") {
+        settings.reverse = true;
+        return settings;
+    }
+    if same(word, b"blink") {
+        settings.blink = true;
+        return settings;
+    }
+    if same(word, b"blanked") {
+        settings.blanked = true;
+        return settings;
+    }
+    settings.wrong = true;
+    settings
+}
+
+pub fn from_arguments() -> Settings {
+    let mut settings = Settings {
+        columns132: false,
+        reverse: false,
+        blink: false,
+        blanked: false,
+        wrong: false,
+    };
+    for i in 1..os::arg_count() {
+        // A longer word is none of the settings, and is answered as an empty one.
+        let mut word = [0u8; 8];
+        let n = os::arg(i, &mut word);
+        settings = with_word(settings, &word[..n]);
+    }
+    settings
+}
+
+fn write(asked: bool, machine: Machine, port: u16, code: u8) -> Machine {
+    if !asked {
+        return machine;
+    }
+    let mut shadow = [0; SHADOW_BYTES];
+    let mut nvm = [0; NVM_BYTES];
+    ports::write_port(machine, &mut shadow, &mut nvm, port, code).machine
+}
+
+pub fn machine(settings: Settings) -> Machine {
+    let machine = Machine::power_up();
+    let machine = write(!settings.blanked, machine, 0x0A, 0x02);
+    let machine = write(settings.columns132, machine, 0x04, 0x10);
+    let machine = write(settings.reverse, machine, 0x0C, 0x0A);
+    write(settings.blink, machine, 0x0C, 0x08)
+}
