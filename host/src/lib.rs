@@ -3,6 +3,7 @@
 //! its own definitions.
 pub mod chain;
 pub mod dots;
+pub mod hard;
 pub mod machine;
 pub mod memories;
 pub mod mending;

@@ -8,7 +8,6 @@ use lib.ListN.{length, take, set, length-set}
 use lib.Seq.{take-suc-set, take-all}
 use Rattle.dots.specs.Cell.{glyphDots, twice, narrowWidth, wideWidth}
 use Rattle.dots.specs.Shades.{shaded, bitShaded, eightDots}
-use Rattle.dots.specs.declared.Shades.{Shades}
 
 -- a dot at the last place
 last-set : (into : List ℕ) (n dot : ℕ) → length into ≡ suc n → set into n dot ≡ take n into ++ (dot ∷ [])
@@ -17,20 +16,20 @@ last-set into n dot long =
     sym all ∙ take-suc-set into n dot (omega (arith, long))
 
 -- what the eight dots leave, and the dot that fills
-pub record Eight (shades : Shades) (glyph : ℕ) (dots : List Bool) (into : List ℕ) (places fill : ℕ) : Type 0 where
-  pub drawn : take places into ≡ map (shaded shades) dots
-  pub again : fill ≡ bitShaded shades glyph 0
+pub record Eight (lit unlit glyph : ℕ) (dots : List Bool) (into : List ℕ) (places fill : ℕ) : Type 0 where
+  pub drawn : take places into ≡ map (shaded lit unlit) dots
+  pub again : fill ≡ bitShaded lit unlit glyph 0
 
-module _ {shades : Shades} {glyph fill : ℕ} {into : List ℕ} where
+module _ {lit unlit glyph fill : ℕ} {into : List ℕ} where
   pub narrow-132 :
-      Eight shades glyph (eightDots glyph) into 8 fill → length into ≡ narrowWidth true
-      → set into 8 fill ≡ map (shaded shades) (glyphDots true glyph)
+      Eight lit unlit glyph (eightDots glyph) into 8 fill → length into ≡ narrowWidth true
+      → set into 8 fill ≡ map (shaded lit unlit) (glyphDots true glyph)
   unfolding glyphDots
   narrow-132 e long = rw (last-set into 8 fill long, e .drawn, e .again) refl
 
   pub narrow-80 :
-      Eight shades glyph (eightDots glyph) into 8 fill → length into ≡ narrowWidth false
-      → set (set into 8 fill) 9 fill ≡ map (shaded shades) (glyphDots false glyph)
+      Eight lit unlit glyph (eightDots glyph) into 8 fill → length into ≡ narrowWidth false
+      → set (set into 8 fill) 9 fill ≡ map (shaded lit unlit) (glyphDots false glyph)
   unfolding glyphDots
   narrow-80 e long =
       rw (
@@ -42,8 +41,8 @@ module _ {shades : Shades} {glyph fill : ℕ} {into : List ℕ} where
       refl
 
   pub wide-132 :
-      Eight shades glyph (twice (eightDots glyph)) into 16 fill → length into ≡ wideWidth true
-      → set (set into 16 fill) 17 fill ≡ map (shaded shades) (twice (glyphDots true glyph))
+      Eight lit unlit glyph (twice (eightDots glyph)) into 16 fill → length into ≡ wideWidth true
+      → set (set into 16 fill) 17 fill ≡ map (shaded lit unlit) (twice (glyphDots true glyph))
   unfolding glyphDots twice
   wide-132 e long =
       rw (
@@ -55,8 +54,8 @@ module _ {shades : Shades} {glyph fill : ℕ} {into : List ℕ} where
       refl
 
   pub wide-80 :
-      Eight shades glyph (twice (eightDots glyph)) into 16 fill → length into ≡ wideWidth false
-      → set (set (set (set into 16 fill) 17 fill) 18 fill) 19 fill ≡ map (shaded shades) (twice (glyphDots false glyph))
+      Eight lit unlit glyph (twice (eightDots glyph)) into 16 fill → length into ≡ wideWidth false
+      → set (set (set (set into 16 fill) 17 fill) 18 fill) 19 fill ≡ map (shaded lit unlit) (twice (glyphDots false glyph))
   unfolding glyphDots twice
   wide-80 e long =
       let two = set (set into 16 fill) 17 fill in

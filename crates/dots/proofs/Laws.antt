@@ -9,13 +9,15 @@ use Rattle.machine.specs.Settings.{bit}
 use Rattle.machine.specs.declared.Machine.{Machine}
 use Rattle.dots.specs.Attributes.{isBold, xor, steady, shade}
 use Rattle.dots.specs.Cell.{narrowWidth, wideWidth}
-use Rattle.dots.specs.Shades.{shadesOf, shaded}
+use Rattle.dots.specs.Shades.{shaded}
 
 -- two shades make every dot of a cell
-pub shades-make : (m : Machine) (attribute scan : ℕ) (dots : List Bool) → map (shaded (shadesOf m attribute scan)) dots ≡ map (shade m attribute scan) dots
-shades-make m attribute scan [] = refl
-shades-make m attribute scan (true ∷ dots) = rw (shades-make m attribute scan dots) refl
-shades-make m attribute scan (false ∷ dots) = rw (shades-make m attribute scan dots) refl
+pub two-shades :
+    (m : Machine) (attribute scan : ℕ) (dots : List Bool)
+    → map (shaded (shade m attribute scan true) (shade m attribute scan false)) dots ≡ map (shade m attribute scan) dots
+two-shades m attribute scan [] = refl
+two-shades m attribute scan (true ∷ dots) = rw (two-shades m attribute scan dots) refl
+two-shades m attribute scan (false ∷ dots) = rw (two-shades m attribute scan dots) refl
 
 -- exclusive or as the code has it
 pub xor-differ : (a b : Bool) → not (Bool·beq a b) ≡ xor a b

@@ -1,26 +1,18 @@
--- What the functions that draw a cell promise.
+-- What the functions that draw a cell promise. A cell shows the lit dots of its glyph in one shade and the unlit ones in another.
 use Prim.Native.Nat.{ℕ}
-use mathlib.Core.List.{List, _++_, map}
-use mathlib.Core.Bool.{Bool, true, false, cond}
+use mathlib.Core.List.{List, map}
+use mathlib.Core.Bool.{Bool, cond}
 use lib.Dec.{eqb}
 use Rattle.machine.specs.Settings.{bit}
-use Rattle.machine.specs.declared.Machine.{Machine}
-use Rattle.dots.specs.Attributes.{shade}
-use Rattle.dots.specs.Cell.{eightBits, glyphDots, twice}
-use Rattle.dots.specs.declared.Shades.{Shades}
+use Rattle.dots.specs.Cell.{eightBits}
 
--- how a cell shows the lit and the unlit dots of its glyph
-abbrev pub shadesOf : Machine → (attribute glyphScan : ℕ) → Shades
-shadesOf m attribute glyphScan =
-    record { lit = shade m attribute glyphScan true; unlit = shade m attribute glyphScan false }
-
-abbrev pub shaded : Shades → Bool → ℕ
-shaded shades lit = cond lit (shades .lit) (shades .unlit)
+abbrev pub shaded : (lit unlit : ℕ) → (dot : Bool) → ℕ
+shaded lit unlit dot = cond dot lit unlit
 
 -- a bit of the glyph
-abbrev pub bitShaded : Shades → (glyph n : ℕ) → ℕ
-bitShaded shades glyph n = shaded shades (eqb (bit n glyph) 1)
+abbrev pub bitShaded : (lit unlit glyph n : ℕ) → ℕ
+bitShaded lit unlit glyph n = shaded lit unlit (eqb (bit n glyph) 1)
 
--- its first eight dots
+-- the glyph's first eight dots
 abbrev pub eightDots : (glyph : ℕ) → List Bool
 eightDots glyph = map (λ (n : ℕ). eqb (bit n glyph) 1) eightBits

@@ -2,21 +2,15 @@
 // them. Document 01, "Dots".
 ghost use Prim.Native.Nat.{_≤_, _<_};
 ghost use mathlib.Core.Path.{_≡_};
-ghost use mathlib.Core.Bool.{true, false};
 ghost use mathlib.Core.List.{map};
 ghost use lib.ListN.{length, take};
-ghost use Rattle.dots.specs.Attributes.{lit, steady, intensity};
+ghost use Rattle.dots.specs.Attributes.{lit, steady, intensity, shade};
 ghost use Rattle.dots.specs.Cell.{glyphDots, twice, cellDots, cellWidth, narrowWidth, wideWidth};
-ghost use Rattle.dots.specs.Shades.{shadesOf, shaded, bitShaded, eightDots};
+ghost use Rattle.dots.specs.Shades.{shaded, bitShaded, eightDots};
 use machine::Machine;
 
 // The scan of a glyph that underline lights.
 const UNDERLINE_SCAN: usize = 9;
-// How a cell shows the lit and the unlit dots of its glyph.
-struct Shades {
-    lit: u8,
-    unlit: u8,
-}
 
 // Whether a dot of the glyph is lit as the cell shows it. Underline comes ahead of reverse.
 fn is_lit(machine: Machine, attribute: u8, scan: usize, dot: bool) -> bool
@@ -46,48 +40,40 @@ fn intensity_of(machine: Machine, attribute: u8, lit: bool) -> u8
     steady(attribute)
 }
 
-fn shades_of(machine: Machine, attribute: u8, scan: usize) -> Shades
-    ensures { λ r. ⌜ r ≡ shadesOf machine attribute scan ⌝ }
+// How a cell shows a dot of its glyph.
+fn shade(machine: Machine, attribute: u8, scan: usize, dot: bool) -> u8
+    ensures { λ r. ⌜ r ≡ shade machine attribute scan dot ⌝ }
 {
-    let lit = is_lit(machine, attribute, scan, true);
-    let unlit = is_lit(machine, attribute, scan, false);
-    Shades {
-        lit: intensity_of(machine, attribute, lit),
-        unlit: intensity_of(machine, attribute, unlit),
-    }
+    intensity_of(machine, attribute, is_lit(machine, attribute, scan, dot))
 }
 
-fn shade_bit(shades: Shades, glyph: u8, bit: usize) -> u8
+fn shade_bit(lit: u8, unlit: u8, glyph: u8, bit: usize) -> u8
     requires { ⌜ bit < 8 ⌝ }
-    ensures { λ r. ⌜ r ≡ bitShaded shades glyph bit ⌝ }
+    ensures { λ r. ⌜ r ≡ bitShaded lit unlit glyph bit ⌝ }
 {
-    if glyph >> bit & 1 == 1 {
-        shades.lit
-    } else {
-        shades.unlit
-    }
+    if glyph >> bit & 1 == 1 { lit } else { unlit }
 }
 
 // The first eight dots, bit 7 first.
-fn draw_eight(shades: Shades, glyph: u8, into: &mut [u8])
+fn draw_eight(lit: u8, unlit: u8, glyph: u8, into: &mut [u8])
     requires { ⌜ 8 ≤ length (now into) ⌝ }
-    ensures { λ _. ⌜ take 8 (now (into .exit)) ≡ map (shaded shades) (eightDots glyph) ⌝ }
+    ensures { λ _. ⌜ take 8 (now (into .exit)) ≡ map (shaded lit unlit) (eightDots glyph) ⌝ }
 {
     let mut dot = 0;
     while dot < 8 {
-        into[dot] = shade_bit(shades, glyph, 7 - dot);
+        into[dot] = shade_bit(lit, unlit, glyph, 7 - dot);
         dot += 1;
     }
 }
 
 // The same, each dot twice.
-fn draw_eight_twice(shades: Shades, glyph: u8, into: &mut [u8])
+fn draw_eight_twice(lit: u8, unlit: u8, glyph: u8, into: &mut [u8])
     requires { ⌜ 16 ≤ length (now into) ⌝ }
-    ensures { λ _. ⌜ take 16 (now (into .exit)) ≡ map (shaded shades) (twice (eightDots glyph)) ⌝ }
+    ensures { λ _. ⌜ take 16 (now (into .exit)) ≡ map (shaded lit unlit) (twice (eightDots glyph)) ⌝ }
 {
     let mut dot = 0;
     while dot < 8 {
-        let shade = shade_bit(shades, glyph, 7 - dot);
+        let shade = shade_bit(lit, unlit, glyph, 7 - dot);
         into[2 * dot] = shade;
         into[2 * dot + 1] = shade;
         dot += 1;
@@ -95,12 +81,12 @@ fn draw_eight_twice(shades: Shades, glyph: u8, into: &mut [u8])
 }
 
 // After the eight dots bit 0 again, once at 132 columns, twice at 80.
-fn draw_narrow(columns132: bool, shades: Shades, glyph: u8, into: &mut [u8])
+fn draw_narrow(columns132: bool, lit: u8, unlit: u8, glyph: u8, into: &mut [u8])
     requires { ⌜ length (now into) ≡ narrowWidth columns132 ⌝ }
-    ensures { λ _. ⌜ now (into .exit) ≡ map (shaded shades) (glyphDots columns132 glyph) ⌝ }
+    ensures { λ _. ⌜ now (into .exit) ≡ map (shaded lit unlit) (glyphDots columns132 glyph) ⌝ }
 {
-    draw_eight(shades, glyph, into);
-    let fill = shade_bit(shades, glyph, 0);
+    draw_eight(lit, unlit, glyph, into);
+    let fill = shade_bit(lit, unlit, glyph, 0);
     into[8] = fill;
     if columns132 {
         return;
@@ -108,12 +94,12 @@ fn draw_narrow(columns132: bool, shades: Shades, glyph: u8, into: &mut [u8])
     into[9] = fill;
 }
 
-fn draw_wide(columns132: bool, shades: Shades, glyph: u8, into: &mut [u8])
+fn draw_wide(columns132: bool, lit: u8, unlit: u8, glyph: u8, into: &mut [u8])
     requires { ⌜ length (now into) ≡ wideWidth columns132 ⌝ }
-    ensures { λ _. ⌜ now (into .exit) ≡ map (shaded shades) (twice (glyphDots columns132 glyph)) ⌝ }
+    ensures { λ _. ⌜ now (into .exit) ≡ map (shaded lit unlit) (twice (glyphDots columns132 glyph)) ⌝ }
 {
-    draw_eight_twice(shades, glyph, into);
-    let fill = shade_bit(shades, glyph, 0);
+    draw_eight_twice(lit, unlit, glyph, into);
+    let fill = shade_bit(lit, unlit, glyph, 0);
     into[16] = fill;
     into[17] = fill;
     if columns132 {
@@ -139,10 +125,11 @@ pub fn draw_cell(machine: Machine, kind: u8, attribute: u8, scan: usize, glyph: 
     requires { ⌜ length (now into) ≡ cellWidth (machine .columns132) kind ⌝ }
     ensures { λ _. ⌜ now (into .exit) ≡ cellDots machine kind attribute scan glyph ⌝ }
 {
-    let shades = shades_of(machine, attribute, scan);
+    let lit = shade(machine, attribute, scan, true);
+    let unlit = shade(machine, attribute, scan, false);
     if chain::is_wide(kind) {
-        draw_wide(machine.columns132, shades, glyph, into);
+        draw_wide(machine.columns132, lit, unlit, glyph, into);
     } else {
-        draw_narrow(machine.columns132, shades, glyph, into);
+        draw_narrow(machine.columns132, lit, unlit, glyph, into);
     }
 }

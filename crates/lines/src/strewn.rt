@@ -51,7 +51,7 @@ fn rows(machine: Machine, picture: &[u8; PICTURE_BYTES], table: &[u8; GLYPH_BYTE
 fn strew(picture: &mut [u8; PICTURE_BYTES], seed: u64) -> u64 {
     let last = trial::strew(picture, seed, 16, 256);
     for n in 0..5 {
-        picture[n * 5 * RECORD_BYTES + 3] = records::DARK;
+        picture[n * 5 * RECORD_BYTES + records::COUNT_AT] = records::DARK;
     }
     last
 }

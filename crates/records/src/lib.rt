@@ -17,6 +17,10 @@ pub const RECORD_BYTES: usize = 268;
 // The bytes of a record ahead of its pairs.
 pub const HEAD_BYTES: usize = 4;
 
+pub const KIND_AT: usize = 2;
+
+pub const COUNT_AT: usize = 3;
+
 const RECORD_PAIRS: usize = 132;
 // The count of a torn row, and of a dark one.
 pub const TORN: u8 = 255;
@@ -85,8 +89,8 @@ fn write_head(into: &mut [u8], head: Head, count: u8)
     let start = head.start;
     into[0] = (start / 256) as u8;
     into[1] = (start % 256) as u8;
-    into[2] = head.kind;
-    into[3] = count;
+    into[KIND_AT] = head.kind;
+    into[COUNT_AT] = count;
 }
 
 // What the cells leave to write of a record.

@@ -25,13 +25,13 @@ use Rattle.picture.proofs.draw.Reads as draw
 use Rattle.listing.specs.Listing.{listed}
 use Rattle.listing.proofs.list_rows.Reads as list-rows
 use Rattle.marks.proofs.is_marked.Reads as is-marked
+use Rattle.mending.specs.Store.{storedWithPicture}
+use Rattle.mending.proofs.store_with_picture.Reads as store-with-picture
 use Rattle.glyphs.proofs.part.Reads as part
 use Rattle.glyphs.proofs.refusal.Reads as part-refusal
 use Rattle.scan_line.specs.Call.{drawnLine}
 use Rattle.scan_line.proofs.dots_of_line.Reads as dots-of-line
 use Rattle.scan_line.proofs.draw.Reads as draw-line
-use Rattle.mending.specs.Store.{storedWithPicture}
-use Rattle.mending.proofs.store_with_picture.Reads as store-with-picture
 
 pub no-second : {A : Type 0} {promised one other : A} → one ≡ promised → other ≡ promised → one ≡ other
 no-second p q = p ∙ sym q

@@ -2,8 +2,8 @@
 -- or has what was lent as it was.
 use Prim.Native.Nat.{ℕ}
 use mathlib.Core.Path.{_≡_, refl}
-use mathlib.Core.Bool.{Bool, true, false, cond, _&&_}
 use mathlib.Core.List.{List}
+use mathlib.Core.Bool.{Bool, true, false, cond, _&&_}
 use lib.ListN.{length}
 use lib.Dec.{eqb, leb}
 use Rattle.lent.specs.Lengths.{shadowBytes}

@@ -1,7 +1,6 @@
 -- Laws about the cells of a line: together they have the dots that a line has.
 use Prim.Native.Nat.{ℕ, _*_, _≤_, _<_}
 use mathlib.Core.Path.{_≡_, refl}
-use mathlib.Core.List.{List}
 use mathlib.Core.Bool.{Bool, true, false, _&&_, and-eq-true-iff}
 use native.Mathlib.Omega.{arith}
 use lib.Dec.{ltb, leb}
@@ -11,8 +10,8 @@ use Rattle.lent.proofs.Tests.{three-equal}
 use Rattle.machine.specs.Settings.{columns}
 use Rattle.machine.specs.declared.Machine.{Machine}
 use Rattle.chain.specs.Chain.{rows, wide, capacity}
-use Rattle.dots.specs.Cell.{cellWidth}
 use Rattle.glyphs.specs.Scans.{firstScan, lastScan}
+use Rattle.dots.specs.Cell.{cellWidth}
 use Rattle.scan_line.specs.Call.{lengthsLine, onTube}
 use Rattle.scan_line.specs.Line.{dotsOfLine, CellsFillTheLine}
 

@@ -1,6 +1,5 @@
 -- Document 01, "Dots" and "Numbers of refusal": the scan line call.
 use Prim.Native.Nat.{ℕ}
-use mathlib.Core.Path.{_≡_}
 use mathlib.Core.List.{List}
 use mathlib.Core.Bool.{Bool, cond, _&&_}
 use lib.ListN.{length}

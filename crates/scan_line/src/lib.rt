@@ -4,7 +4,6 @@ ghost use mathlib.Core.Path.{_≡_};
 ghost use mathlib.Core.List.{_++_};
 ghost use lib.ListN.{length, take, replicate};
 ghost use Rattle.lent.specs.Lengths.{glyphBytes, lineBytes};
-ghost use Rattle.chain.specs.Chain.{rows};
 ghost use Rattle.records.specs.Record.{recordBytes};
 ghost use Rattle.glyphs.specs.Scans.{firstScan, lastScan};
 ghost use Rattle.scan_line.specs.Line.{rowDots, dotsOfLine, showsNothing, lineOf};
@@ -79,7 +78,7 @@ fn draw_row(machine: Machine, bytes: &[u8], table: &[u8], scan: usize, line: &mu
     ensures { λ _. ⌜ take (dotsOfLine machine) (now (line .exit))
         ≡ rowDots machine (now (table .entry)) (now (bytes .entry)) scan ⌝ }
 {
-    let kind = bytes[2] % 8;
+    let kind = bytes[records::KIND_AT] % 8;
     let shown = glyphs::glyph_scan(kind, scan);
     let address = glyphs::scan_address(shown);
     let width = dots::cell_width(machine, kind);
@@ -103,7 +102,7 @@ fn draw_record(machine: Machine, bytes: &[u8], table: &[u8], scan: usize, line: 
     requires { ⌜ length (now line) ≡ lineBytes ⌝ }
     ensures { λ _. ⌜ now (line .exit) ≡ lineOf machine (now (table .entry)) (now (bytes .entry)) scan ⌝ }
 {
-    if shows_nothing(machine, bytes[3]) {
+    if shows_nothing(machine, bytes[records::COUNT_AT]) {
         clear(line, 0);
         return;
     }

@@ -1,6 +1,6 @@
 use mathlib.Core.Path.{refl, sym, _∙_}
-use Rattle.dots.specs.Cell.{cellWidth}
 use borrow.Author.Needs.{needs}
+use Rattle.dots.specs.Cell.{cellWidth}
 use Rattle.dots.proofs.cell_width.Statement.{statement}
 use Rattle.dots.proofs.cell_width.Tie as tie
 

@@ -1,12 +1,15 @@
 use mathlib.Core.Path.{refl, sym, _∙_}
-use Rattle.dots.specs.Cell.{glyphDots, twice, cellDots, cellWidth}
-use Rattle.dots.proofs.Laws.{shades-make}
 use borrow.Author.Needs.{needs}
+use Rattle.dots.specs.Cell.{glyphDots, twice, cellDots, cellWidth}
+use Rattle.dots.proofs.Laws.{two-shades}
 use Rattle.dots.proofs.draw_cell.Statement.{statement}
 use Rattle.dots.proofs.draw_cell.Tie as tie
 
-shades-of-requires : tie.Need-shades-of-requires
-shades-of-requires c κs = search needs
+shade-requires : tie.Need-shade-requires
+shade-requires c κs = search needs
+
+shade-requires-2 : tie.Need-shade-requires-2
+shade-requires-2 c κs = search needs
 
 is-wide-requires : tie.Need-is-wide-requires
 is-wide-requires c κs = search needs
@@ -15,13 +18,13 @@ draw-wide-requires : tie.Need-draw-wide-requires
 unfolding cellWidth
 draw-wide-requires c κs =
     let e = sym (c .before .before .is-wide .ensures) ∙ c .before .if1 .taken in
-    c .before .before .before .before .before .pre ∙ rw e refl
+    c .before .before .before .before .before .before .pre ∙ rw e refl
 
 draw-narrow-requires : tie.Need-draw-narrow-requires
 unfolding cellWidth
 draw-narrow-requires c κs =
     let e = sym (c .before .before .is-wide .ensures) ∙ c .before .if1 .left in
-    c .before .before .before .before .before .pre ∙ rw e refl
+    c .before .before .before .before .before .before .pre ∙ rw e refl
 
 same-length : tie.Need-same-length
 same-length c = search needs
@@ -30,10 +33,10 @@ returns : tie.Need-returns
 unfolding cellDots
 returns c =
     let t = c .before .before .before .before in
-    let a = t .before .before .before .before .args in
+    let a = t .before .before .before .before .before .args in
     let e = sym (t .before .is-wide .ensures) ∙ t .if1 .taken in
-    rw (c .before .before .draw-wide .ensures, t .before .before .shades-of .ensures, e)
-    (shades-make (a .machine) (a .attribute) (a .scan) (twice (glyphDots (a .machine .columns132) (a .glyph))))
+    rw (c .before .before .draw-wide .ensures, t .before .before .shade2 .ensures, t .before .before .before .shade .ensures, e)
+    (two-shades (a .machine) (a .attribute) (a .scan) (twice (glyphDots (a .machine .columns132) (a .glyph))))
 
 same-length-2 : tie.Need-same-length-2
 same-length-2 c = search needs
@@ -42,16 +45,17 @@ returns-2 : tie.Need-returns-2
 unfolding cellDots
 returns-2 c =
     let t = c .before .before .before .before in
-    let a = t .before .before .before .before .args in
+    let a = t .before .before .before .before .before .args in
     let e = sym (t .before .is-wide .ensures) ∙ t .if1 .left in
-    rw (c .before .before .draw-narrow .ensures, t .before .before .shades-of .ensures, e)
-    (shades-make (a .machine) (a .attribute) (a .scan) (glyphDots (a .machine .columns132) (a .glyph)))
+    rw (c .before .before .draw-narrow .ensures, t .before .before .shade2 .ensures, t .before .before .before .shade .ensures, e)
+    (two-shades (a .machine) (a .attribute) (a .scan) (glyphDots (a .machine .columns132) (a .glyph)))
 
 pub draw-cell-spec : {M : Type 1} → statement M
 draw-cell-spec =
     tie.close
     (tie.spec
-    shades-of-requires
+    shade-requires
+    shade-requires-2
     is-wide-requires
     draw-wide-requires
     draw-narrow-requires

@@ -1,17 +1,17 @@
-use lib.ListN.{length}
 use Prim.Native.Nat.{ℕ, _-_}
+use lib.ListN.{length}
+use borrow.Author.Needs.{needs}
 use Rattle.dots.specs.Shades.{bitShaded}
 use Rattle.dots.proofs.Drawing.{inTurn, once, Drawn, none-drawn, one-drawn, all-drawn}
-use borrow.Author.Needs.{needs}
 use Rattle.dots.proofs.draw_eight.Statement.{statement}
 use Rattle.dots.proofs.draw_eight.Tie as tie
 
 abbrev Inv-loop : tie.InvT-loop
-Inv-loop shades glyph into₀ dot₀ into dot =
-    Drawn 1 (once (λ (n : ℕ). bitShaded shades glyph (7 - n))) (length into₀) into dot
+Inv-loop lit unlit glyph into₀ dot₀ into dot =
+    Drawn 1 (once (λ (n : ℕ). bitShaded lit unlit glyph (7 - n))) (length into₀) into dot
 
 abbrev μ-loop : tie.MeasureT-loop
-μ-loop shades glyph into₀ dot₀ into dot = 8 - dot
+μ-loop lit unlit glyph into₀ dot₀ into dot = 8 - dot
 
 loop-holds : tie.Need-loop-holds Inv-loop μ-loop
 loop-holds c = none-drawn 1 _ _ (search needs)

@@ -1,18 +1,18 @@
-use Rattle.dots.specs.Cell.{twice}
-use lib.ListN.{length, length-set}
 use Prim.Native.Nat.{ℕ, _-_}
+use lib.ListN.{length, length-set}
+use borrow.Author.Needs.{needs}
+use Rattle.dots.specs.Cell.{twice}
 use Rattle.dots.specs.Shades.{bitShaded}
 use Rattle.dots.proofs.Drawing.{inTurn, both, Drawn, none-drawn, two-drawn, all-drawn}
-use borrow.Author.Needs.{needs}
 use Rattle.dots.proofs.draw_eight_twice.Statement.{statement}
 use Rattle.dots.proofs.draw_eight_twice.Tie as tie
 
 abbrev Inv-loop : tie.InvT-loop
-Inv-loop shades glyph into₀ dot₀ into dot =
-    Drawn 2 (both (λ (n : ℕ). bitShaded shades glyph (7 - n))) (length into₀) into dot
+Inv-loop lit unlit glyph into₀ dot₀ into dot =
+    Drawn 2 (both (λ (n : ℕ). bitShaded lit unlit glyph (7 - n))) (length into₀) into dot
 
 abbrev μ-loop : tie.MeasureT-loop
-μ-loop shades glyph into₀ dot₀ into dot = 8 - dot
+μ-loop lit unlit glyph into₀ dot₀ into dot = 8 - dot
 
 loop-holds : tie.Need-loop-holds Inv-loop μ-loop
 loop-holds c = none-drawn 2 _ _ (search needs)

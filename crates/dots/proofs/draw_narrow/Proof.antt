@@ -1,29 +1,29 @@
 use Prim.Native.Nat.{ℕ}
 use mathlib.Core.Path.{_≡_, ap, _∙_}
+use mathlib.Core.List.{List}
 use native.Mathlib.Omega.{arith}
 use lib.ListN.{length, length-set}
-use mathlib.Core.List.{List}
+use borrow.Author.Needs.{needs}
 use Rattle.dots.specs.Shades.{eightDots}
 use Rattle.dots.specs.Cell.{narrowWidth}
 use Rattle.dots.proofs.Laws.{narrow-room}
 use Rattle.dots.proofs.Fill.{Eight, narrow-132, narrow-80}
-use borrow.Author.Needs.{needs}
 use Rattle.dots.proofs.draw_narrow.Statement.{statement}
 use Rattle.dots.proofs.draw_narrow.Tie as tie
 
 -- what the eight dots left
 abbrev drawn : tie.After-shade-bit → List ℕ
-drawn c = c .before .before .before .draw-eight .last .1 .1 .0
+drawn c = c .before .before .before .draw-eight .last .1 .1 .1 .0
 
 abbrev asked : tie.After-shade-bit → tie.Start
 asked c = c .before .before .before .before .before .before
 
 size : (c : tie.After-shade-bit) → length (drawn c) ≡ narrowWidth (asked c .args .columns132)
-size c = c .before .before .before .draw-eight .kept .1 .1 .0 ∙ asked c .pre
+size c = c .before .before .before .draw-eight .kept .1 .1 .1 .0 ∙ asked c .pre
 
 eight :
     (c : tie.After-shade-bit)
-    → Eight (asked c .args .shades) (asked c .args .glyph) (eightDots (asked c .args .glyph)) (drawn c) 8 (c .shade-bit .result)
+    → Eight (asked c .args .lit) (asked c .args .unlit) (asked c .args .glyph) (eightDots (asked c .args .glyph)) (drawn c) 8 (c .shade-bit .result)
 eight c = record { drawn = c .before .before .before .draw-eight .ensures; again = c .shade-bit .ensures }
 
 draw-eight-requires : tie.Need-draw-eight-requires

@@ -1,29 +1,29 @@
 use Prim.Native.Nat.{ℕ}
 use mathlib.Core.Path.{_≡_, ap, _∙_}
+use mathlib.Core.List.{List}
 use native.Mathlib.Omega.{arith}
 use lib.ListN.{length, length-set}
-use mathlib.Core.List.{List}
+use borrow.Author.Needs.{needs}
 use Rattle.dots.specs.Shades.{eightDots}
 use Rattle.dots.specs.Cell.{twice, wideWidth}
 use Rattle.dots.proofs.Laws.{wide-room}
 use Rattle.dots.proofs.Fill.{Eight, wide-132, wide-80}
-use borrow.Author.Needs.{needs}
 use Rattle.dots.proofs.draw_wide.Statement.{statement}
 use Rattle.dots.proofs.draw_wide.Tie as tie
 
 -- what the eight dots left
 abbrev drawn : tie.After-shade-bit → List ℕ
-drawn c = c .before .before .before .draw-eight-twice .last .1 .1 .0
+drawn c = c .before .before .before .draw-eight-twice .last .1 .1 .1 .0
 
 abbrev asked : tie.After-shade-bit → tie.Start
 asked c = c .before .before .before .before .before .before
 
 size : (c : tie.After-shade-bit) → length (drawn c) ≡ wideWidth (asked c .args .columns132)
-size c = c .before .before .before .draw-eight-twice .kept .1 .1 .0 ∙ asked c .pre
+size c = c .before .before .before .draw-eight-twice .kept .1 .1 .1 .0 ∙ asked c .pre
 
 eight :
     (c : tie.After-shade-bit)
-    → Eight (asked c .args .shades) (asked c .args .glyph) (twice (eightDots (asked c .args .glyph))) (drawn c) 16 (c .shade-bit .result)
+    → Eight (asked c .args .lit) (asked c .args .unlit) (asked c .args .glyph) (twice (eightDots (asked c .args .glyph))) (drawn c) 16 (c .shade-bit .result)
 eight c = record { drawn = c .before .before .before .draw-eight-twice .ensures; again = c .shade-bit .ensures }
 
 draw-eight-twice-requires : tie.Need-draw-eight-twice-requires

@@ -1,8 +1,9 @@
 use mathlib.Core.Path.{refl, sym}
 use native.Mathlib.Nat.{sub-zero}
-use Rattle.dots.proofs.Laws.{steady-lit}
+use native.Mathlib.Omega.{arith}
 use borrow.Author.Tests.{not-true, not-false}
 use borrow.Author.Needs.{needs}
+use Rattle.dots.proofs.Laws.{steady-lit}
 use Rattle.dots.proofs.intensity_of.Statement.{statement}
 use Rattle.dots.proofs.intensity_of.Tie as tie
 
@@ -13,7 +14,7 @@ steady-requires : tie.Need-steady-requires
 steady-requires c κs = search needs
 
 sub-result : tie.Need-sub-result
-sub-result c = rw (c .steady .ensures) (steady-lit (c .before .before .before .before .args .attribute))
+sub-result c = omega (arith, c .steady .ensures, steady-lit (c .before .before .before .before .args .attribute))
 
 returns-2 : tie.Need-returns-2
 returns-2 c = rw (not-false (c .before .before .before .before .args .lit) (c .before .before .before .if1 .left), c .before .if2 .taken, c .steady .ensures) refl

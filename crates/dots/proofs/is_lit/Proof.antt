@@ -1,17 +1,14 @@
-use native.Mathlib.Nat.{div-one}
 use mathlib.Core.Path.{refl}
-use Prim.Native.Nat.{_%_}
 use mathlib.Core.Bool.{_||_}
-use lib.Dec.{eqb}
+use native.Mathlib.Nat.{div-one}
 use Rattle.dots.proofs.Laws.{xor-differ}
-use borrow.Author.Needs.{needs}
 use Rattle.dots.proofs.is_lit.Statement.{statement}
 use Rattle.dots.proofs.is_lit.Tie as tie
 
 returns : tie.Need-returns
 returns c =
     let a = c .before .args in
-    rw (xor-differ (eqb (a .attribute % 2) 1) (a .machine .reverse), xor-differ _ (a .dot || _), div-one (a .attribute)) refl
+    rw (xor-differ _ (a .machine .reverse), xor-differ _ (a .dot || _), div-one (a .attribute)) refl
 
 pub is-lit-spec : {M : Type 1} → statement M
 is-lit-spec = tie.close (tie.spec returns)

@@ -1,8 +1,8 @@
 use mathlib.Core.Path.{refl, sym, _∙_}
 use borrow.Author.Tests.{ne-eqb}
+use borrow.Author.Needs.{needs}
 use Rattle.machine.specs.Settings.{bit}
 use Rattle.dots.proofs.Laws.{bit-tested}
-use borrow.Author.Needs.{needs}
 use Rattle.dots.proofs.shade_bit.Statement.{statement}
 use Rattle.dots.proofs.shade_bit.Tie as tie
 

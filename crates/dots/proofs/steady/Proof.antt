@@ -1,6 +1,5 @@
 use mathlib.Core.Path.{refl}
 use borrow.Author.Tests.{eq-eqb, ne-eqb}
-use borrow.Author.Needs.{needs}
 use Rattle.dots.proofs.steady.Statement.{statement}
 use Rattle.dots.proofs.steady.Tie as tie
 

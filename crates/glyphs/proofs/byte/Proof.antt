@@ -1,5 +1,5 @@
-use Rattle.glyphs.specs.Glyphs.{glyphByte}
 use borrow.Author.Needs.{needs}
+use Rattle.glyphs.specs.Glyphs.{glyphByte}
 use Rattle.glyphs.proofs.byte.Statement.{statement}
 use Rattle.glyphs.proofs.byte.Tie as tie
 

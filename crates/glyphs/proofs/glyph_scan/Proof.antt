@@ -1,8 +1,8 @@
 use mathlib.Core.Path.{refl}
 use native.Mathlib.Omega.{arith}
 use borrow.Author.Tests.{ne-eqb}
-use Rattle.glyphs.specs.Scans.{glyphScan}
 use borrow.Author.Needs.{needs}
+use Rattle.glyphs.specs.Scans.{glyphScan}
 use Rattle.glyphs.proofs.glyph_scan.Statement.{statement}
 use Rattle.glyphs.proofs.glyph_scan.Tie as tie
 

@@ -1,10 +1,9 @@
 use Prim.Native.Nat.{_+_, _-_, _*_}
 use mathlib.Core.Path.{_≡_, refl}
 use native.Mathlib.Omega.{arith}
-use Rattle.glyphs.specs.Glyphs.{codeBytes}
 use borrow.Author.Tests.{eq-eqb, ne-eqb}
-use Rattle.glyphs.specs.Glyphs.{glyphPart}
 use borrow.Author.Needs.{needs}
+use Rattle.glyphs.specs.Glyphs.{codeBytes, glyphPart}
 use Rattle.glyphs.proofs.part.Statement.{statement}
 use Rattle.glyphs.proofs.part.Tie as tie
 

@@ -1,7 +1,6 @@
 use mathlib.Core.Path.{refl}
 use borrow.Author.Tests.{eq-eqb, ne-eqb}
 use Rattle.glyphs.specs.Glyphs.{partRefusal}
-use borrow.Author.Needs.{needs}
 use Rattle.glyphs.proofs.refusal.Statement.{statement}
 use Rattle.glyphs.proofs.refusal.Tie as tie
 

@@ -1,7 +1,7 @@
 use mathlib.Core.Path.{refl}
-use Rattle.glyphs.proofs.Laws.{address-fits}
-use Rattle.glyphs.specs.Scans.{scanAddress, scanAddresses}
 use borrow.Author.Needs.{needs}
+use Rattle.glyphs.specs.Scans.{scanAddress, scanAddresses}
+use Rattle.glyphs.proofs.Laws.{address-fits}
 use Rattle.glyphs.proofs.scan_address.Statement.{statement}
 use Rattle.glyphs.proofs.scan_address.Tie as tie
 

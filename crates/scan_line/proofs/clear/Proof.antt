@@ -1,7 +1,7 @@
 use Prim.Native.Nat.{_-_}
+use borrow.Author.Needs.{needs}
 use Rattle.lent.specs.Lengths.{lineBytes}
 use Rattle.scan_line.proofs.Clearing.{Clearing, clearing-begins, clearing-goes-on, clearing-ends}
-use borrow.Author.Needs.{needs}
 use Rattle.scan_line.proofs.clear.Statement.{statement}
 use Rattle.scan_line.proofs.clear.Tie as tie
 

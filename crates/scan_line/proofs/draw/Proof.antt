@@ -1,17 +1,17 @@
-use Rattle.records.specs.Record.{recordBytes}
 use Prim.Native.Nat.{_+_, _-_, _*_, _≤_, _<_}
+use mathlib.Core.Path.{_≡_, refl}
 use native.Mathlib.Omega.{arith}
-use denote.Ref.{now}
 use lib.ListN.{length}
+use borrow.Author.Needs.{needs}
+use denote.Ref.{now}
 use Rattle.lent.specs.Lengths.{pictureBytes, glyphBytes, lineBytes}
+use Rattle.lent.proofs.Tests.{held, failed}
 use Rattle.chain.specs.Chain.{rows}
+use Rattle.records.specs.Record.{recordBytes}
+use Rattle.picture.specs.Picture.{recordIn}
 use Rattle.picture.proofs.Records.{record-lent}
 use Rattle.glyphs.specs.Scans.{firstScan, lastScan}
-use Rattle.picture.specs.Picture.{recordIn}
-use mathlib.Core.Path.{_≡_, refl}
-use Rattle.lent.proofs.Tests.{held, failed}
 use Rattle.scan_line.proofs.Laws.{lentLine, placed}
-use borrow.Author.Needs.{needs}
 use Rattle.scan_line.proofs.draw.Statement.{statement}
 use Rattle.scan_line.proofs.draw.Tie as tie
 

@@ -1,6 +1,6 @@
 use mathlib.Core.Path.{refl, sym, _∙_}
-use Rattle.scan_line.specs.Line.{lineOf}
 use borrow.Author.Needs.{needs}
+use Rattle.scan_line.specs.Line.{lineOf}
 use Rattle.scan_line.proofs.draw_record.Statement.{statement}
 use Rattle.scan_line.proofs.draw_record.Tie as tie
 

@@ -1,13 +1,13 @@
 use Prim.Native.Nat.{ℕ, _-_}
 use mathlib.Core.Path.{ap, _∙_}
 use native.Mathlib.Omega.{arith}
+use borrow.Author.Needs.{needs}
 use denote.Ref.{now}
 use Rattle.chain.specs.Chain.{capacity}
 use Rattle.picture.proofs.Laws.{columns-fit}
 use Rattle.picture.proofs.Parts.{part-lent}
 use Rattle.scan_line.specs.Line.{kindIn}
 use Rattle.scan_line.proofs.Row.{Rowing, row-begins, cell-room, row-goes-on, row-ends}
-use borrow.Author.Needs.{needs}
 use Rattle.scan_line.proofs.draw_row.Statement.{statement}
 use Rattle.scan_line.proofs.draw_row.Tie as tie
 

@@ -1,10 +1,10 @@
 use mathlib.Core.Path.{refl}
 use native.Mathlib.Omega.{arith}
 use borrow.Author.Tests.{lt-ltb, le-ltb, le-leb, lt-leb}
+use borrow.Author.Needs.{needs}
 use Rattle.chain.specs.Chain.{rows}
 use Rattle.glyphs.specs.Scans.{firstScan}
 use Rattle.scan_line.specs.Call.{onTube}
-use borrow.Author.Needs.{needs}
 use Rattle.scan_line.proofs.is_on_tube.Statement.{statement}
 use Rattle.scan_line.proofs.is_on_tube.Tie as tie
 

@@ -1,5 +1,5 @@
-use Rattle.scan_line.specs.Call.{lengthsLine}
 use borrow.Author.Needs.{needs}
+use Rattle.scan_line.specs.Call.{lengthsLine}
 use Rattle.scan_line.proofs.lengths_line.Statement.{statement}
 use Rattle.scan_line.proofs.lengths_line.Tie as tie
 

@@ -1,6 +1,6 @@
 use mathlib.Core.Path.{refl, sym, _∙_}
-use Rattle.scan_line.specs.Line.{showsNothing}
 use borrow.Author.Needs.{needs}
+use Rattle.scan_line.specs.Line.{showsNothing}
 use Rattle.scan_line.proofs.shows_nothing.Statement.{statement}
 use Rattle.scan_line.proofs.shows_nothing.Tie as tie
 
