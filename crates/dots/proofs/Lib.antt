@@ -1,3 +1,4 @@
 pub mod Laws
 pub mod Drawing
 pub mod Fill
+pub mod Cell

@@ -1,7 +1,9 @@
 -- Document 01, "Dots": the dots of a cell.
 use Prim.Native.Nat.{ℕ}
+use mathlib.Core.Path.{_≡_}
 use mathlib.Core.List.{List, [], _∷_, _++_, map}
 use mathlib.Core.Bool.{Bool, cond}
+use lib.ListN.{length}
 use lib.Dec.{eqb}
 use Rattle.machine.specs.Settings.{bit}
 use Rattle.machine.specs.declared.Machine.{Machine}
@@ -39,3 +41,8 @@ wideWidth columns132 = cond columns132 18 20
 
 unfoldable pub cellWidth : (columns132 : Bool) → (kind : ℕ) → ℕ
 cellWidth columns132 kind = cond (wide kind) (wideWidth columns132) (narrowWidth columns132)
+
+abbrev pub CellSized : Type 0
+CellSized =
+    (m : Machine) (kind attribute glyphScan glyph : ℕ)
+    → length (cellDots m kind attribute glyphScan glyph) ≡ cellWidth (m .columns132) kind

@@ -9,7 +9,7 @@ use records::RECORD_BYTES;
 
 // What port 0A holds: the first two show the screen, the third blanks it, the last selects the graphics
 // board.
-const HELD: [u8; 4] = [0xFB, 0x02, 0xFD, 0x06];
+const HELD: [u8; 4] = [0xFB, 0x02, 0xF9, 0x06];
 
 const SETTINGS: usize = 32;
 

@@ -3,7 +3,7 @@ use Prim.Native.Nat.{ℕ, zero, suc, _+_, _-_, _*_, _≤_, _<_}
 use mathlib.Core.Path.{_≡_, refl, _∙_}
 use mathlib.Core.List.{List, _++_}
 use mathlib.Core.Bool.{Bool, true, false}
-use native.Mathlib.Nat.{suc-mul}
+use native.Mathlib.Nat.{zero-mul, suc-mul}
 use native.Mathlib.Omega.{arith}
 use lib.ListN.{length, take, drop, length-append, length-drop}
 use lib.Seq.{take-all, take-add, take-append-le, drop-append-le, drop-at}
@@ -29,15 +29,20 @@ unfolding inOrder recordIn
 own-records picture zero = refl
 own-records picture (suc n) = rw (own-records picture n, suc-mul n recordBytes, take-add (n * recordBytes) recordBytes picture)
 
+-- so many of one size
+pub pieces-length :
+    (f : ℕ → List ℕ) (size n : ℕ) → ((k : ℕ) → k < n → length (f k) ≡ size) → length (inOrder f n) ≡ n * size
+unfolding inOrder
+pieces-length f size zero sized = rw (zero-mul size) refl
+pieces-length f size (suc n) sized =
+    rw (length-append, pieces-length f size n (λ k h. sized k (omega arith)), sized n (omega arith), suc-mul n size) refl
+
 module _ (f : ℕ → List ℕ) where
   abbrev pub Sized : ℕ → Type 0
   Sized n = (row : ℕ) → row < n → length (f row) ≡ recordBytes
 
   pub records-length : (n : ℕ) → Sized n → length (inOrder f n) ≡ n * recordBytes
-  unfolding inOrder
-  records-length zero sized = refl
-  records-length (suc n) sized =
-      rw (length-append, records-length n (λ row h. sized row (omega arith)), sized n (omega arith)) (omega arith)
+  records-length n sized = pieces-length f recordBytes n sized
 
   -- a row's record among them is its own
   pub record-in-order : (n row : ℕ) → row < n → Sized n → recordIn (inOrder f n) row ≡ f row

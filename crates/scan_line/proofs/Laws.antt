@@ -13,9 +13,10 @@ use Rattle.chain.specs.Chain.{rows, wide, capacity}
 use Rattle.glyphs.specs.Scans.{firstScan, lastScan}
 use Rattle.dots.specs.Cell.{cellWidth}
 use Rattle.scan_line.specs.Call.{lengthsLine, onTube}
-use Rattle.scan_line.specs.Line.{dotsOfLine, CellsFillTheLine}
+use Rattle.scan_line.specs.Line.{dotsOfLine}
 
-pub cells-fill-the-line : CellsFillTheLine
+pub cells-fill-the-line :
+    (m : Machine) (kind : ℕ) → capacity (columns m) kind * cellWidth (m .columns132) kind ≡ dotsOfLine m
 unfolding capacity cellWidth
 cells-fill-the-line m kind = go (m .columns132) (wide kind) refl refl
   where

@@ -1,3 +1,4 @@
 pub mod Laws
 pub mod Row
 pub mod Clearing
+pub mod Line

@@ -3,7 +3,7 @@ use Prim.Native.Nat.{ℕ, _+_, _-_, _*_, _%_}
 use mathlib.Core.Path.{_≡_}
 use mathlib.Core.List.{List, _++_}
 use mathlib.Core.Bool.{Bool, cond, _||_}
-use lib.ListN.{getD, replicate}
+use lib.ListN.{length, getD, replicate}
 use lib.Dec.{eqb}
 use Rattle.lent.specs.Lengths.{lineBytes}
 use Rattle.machine.specs.Settings.{columns, blanked, graphics}
@@ -13,7 +13,7 @@ use Rattle.records.specs.Record.{headBytes, darkCount}
 use Rattle.picture.specs.Picture.{inOrder}
 use Rattle.glyphs.specs.Glyphs.{glyphByte}
 use Rattle.glyphs.specs.Scans.{scanAddress, glyphScan}
-use Rattle.dots.specs.Cell.{cellDots, cellWidth}
+use Rattle.dots.specs.Cell.{cellDots}
 
 -- "The record's kind is taken modulo 8 and its attributes modulo 16."
 abbrev pub kindIn : (bytes : List ℕ) → ℕ
@@ -52,7 +52,8 @@ lineOf m table bytes scan =
     (replicate lineBytes 0)
     (rowDots m table bytes scan ++ replicate (lineBytes - dotsOfLine m) 0)
 
--- so many cells of so many dots are that many dots, at either column setting and for every kind
-abbrev pub CellsFillTheLine : Type 0
-CellsFillTheLine =
-    (m : Machine) (kind : ℕ) → capacity (columns m) kind * cellWidth (m .columns132) kind ≡ dotsOfLine m
+-- "A line has 800 or 1,188 dots", and its buffer has 1,188 bytes
+abbrev pub LineSized : Type 0
+LineSized =
+    (m : Machine) (table bytes : List ℕ) (scan : ℕ)
+    → (length (rowDots m table bytes scan) ≡ dotsOfLine m) × (length (lineOf m table bytes scan) ≡ lineBytes)

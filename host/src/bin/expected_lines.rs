@@ -10,7 +10,7 @@ fn setting(n: usize) -> Machine {
         columns: [80, 132][n % 2],
         reverse: n / 2 % 2 == 1,
         blink: n / 4 % 2 == 1,
-        held: [0xFB, 0x02, 0xFD, 0x06][n / 8],
+        held: [0xFB, 0x02, 0xF9, 0x06][n / 8],
         ..Machine::power_up()
     }
 }
