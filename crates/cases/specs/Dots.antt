@@ -65,6 +65,6 @@ litByBits columns132 kind dots = map (λ (n : ℕ). Dots (litDots columns132 kin
 unfoldable pub underDigits : (digits : List ℕ) → List Said
 underDigits digits = map (λ (n : ℕ). Dots (map (λ (digit : ℕ). cond (eqb digit n) 1 0) digits)) bits
 
--- the character under the digits, as far as its ten marks are whole: scans 4 and 7 have these bytes
+-- the two scans under the digits that have ten marks left in our copy, each read as one cell; the bytes are the first eight
 unfoldable pub printed : List ℕ
 printed = ofCharacter (0 ∷ 0 ∷ 0x77 ∷ 0 ∷ 0 ∷ 0xEF ∷ 0 ∷ 0 ∷ 0 ∷ 0 ∷ 0 ∷ 0 ∷ 0 ∷ 0 ∷ 0 ∷ 0 ∷ [])

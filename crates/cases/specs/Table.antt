@@ -94,7 +94,7 @@ dots =
     -- 003: 76543210007654321000, bit by bit
     ∷ record { gives = litByBits false normal 20; says = underDigits digits80 }
     ∷ record { gives = litByBits true normal 18; says = underDigits digits132 }
-    -- 003: scan 4, address 2: -###-#####
+    -- 003: scan 4, address 2: -###-#####, read as one cell
     ∷ record {
       gives = Dots (litDots false normal printed 4 10) ∷ [];
       says = Dots (0 ∷ 1 ∷ 1 ∷ 1 ∷ 0 ∷ 1 ∷ 1 ∷ 1 ∷ 1 ∷ 1 ∷ []) ∷ [];
@@ -103,7 +103,7 @@ dots =
       gives = Dots (litDots true normal printed 4 9) ∷ [];
       says = Dots (0 ∷ 1 ∷ 1 ∷ 1 ∷ 0 ∷ 1 ∷ 1 ∷ 1 ∷ 1 ∷ []) ∷ [];
     }
-    -- 003: scan 7, address 5: ###-######
+    -- 003: scan 7, address 5: ###-######, read as one cell
     ∷ record {
       gives = Dots (litDots false normal printed 7 10) ∷ [];
       says = Dots (1 ∷ 1 ∷ 1 ∷ 0 ∷ 1 ∷ 1 ∷ 1 ∷ 1 ∷ 1 ∷ 1 ∷ []) ∷ [];

@@ -1,5 +1,5 @@
 // The bit positions that 003 prints in section 2.1.6.7, two cells side by side, and the two scans of its
-// character whose ten marks our copy has whole.
+// character that have ten marks left in our copy, each read as one cell.
 use crate::say;
 use crate::strewn;
 use lent::GLYPH_BYTES;
@@ -28,7 +28,7 @@ fn marks(line: &[u8; LINE_BYTES]) {
 // A glyph byte at every scan of every code, in a row of normal kind with no attributes.
 fn byte(n: usize, byte: u8) {
     let mut picture = [0x0E; PICTURE_BYTES];
-    picture[2] = 3;
+    picture[records::KIND_AT] = 3;
     let table = [byte; GLYPH_BYTES];
     let mut line = [0; LINE_BYTES];
     scan_line::draw(strewn::setting(n), &picture, &table, 0, 1, &mut line);

@@ -26,8 +26,8 @@ fn marks(n: usize, byte: u8) -> String {
     line[..20].iter().map(mark).collect()
 }
 
-/// 003, section 2.1.6.7: the line of digits over its character, and the scans 4 and 7 as they are printed.
-/// The model must give them too. At 132 columns a cell has one dot less.
+/// 003, section 2.1.6.7: the line of digits over its character, and the marks of scans 4 and 7, read as one
+/// cell each. The model must give them too. At 132 columns a cell has one dot less.
 fn pattern() {
     const DIGITS: &str = "76543210007654321000";
     const SCANS: [(u8, &str); 2] = [(0x77, "-###-#####"), (0xEF, "###-######")];
