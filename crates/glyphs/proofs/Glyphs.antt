@@ -12,7 +12,7 @@ use Rattle.lent.specs.Lengths.{glyphBytes}
 use Rattle.lent.specs.Refusals.{accepted, lengthRefused}
 use Rattle.glyphs.specs.Glyphs.{codeBytes, glyphByte, glyphPart, partRefusal, TellsItsRefusal, HoldsTheScans}
 
-sixteen :
+pub sixteen :
     (table : List ℕ) (code : ℕ) → length table ≡ glyphBytes → code < 256
     → length (take codeBytes (drop (code * codeBytes) table)) ≡ codeBytes
 sixteen table code long h =

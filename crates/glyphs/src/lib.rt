@@ -8,7 +8,7 @@ ghost use Rattle.glyphs.specs.Glyphs.{codeBytes, glyphByte, glyphPart, p
 ghost use Rattle.glyphs.specs.Scans.{firstScan, lastScan, scanAddress, glyphScan};
 
 // A code has so many bytes in the table.
-const CODE_BYTES: usize = 16;
+pub const CODE_BYTES: usize = 16;
 
 pub const FIRST_SCAN: usize = 1;
 

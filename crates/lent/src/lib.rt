@@ -59,6 +59,7 @@ pub fn three_lengths(a: usize, x: usize, b: usize, y: usize, c: usize, z: usize)
 }
 
 // The answer of a call that reads a byte: the byte, or a refusal beside which the byte is 0.
+#[repr(C)]
 pub struct ByteRead {
     pub refusal: u8,
     pub byte: u8,

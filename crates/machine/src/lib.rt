@@ -4,6 +4,7 @@ ghost use mathlib.Core.Path.{_≡_};
 ghost use Rattle.machine.specs.Power.{powerUp, verticalTick};
 ghost use Rattle.machine.specs.Settings.{columns, blanked, graphics};
 
+#[repr(C)]
 pub struct Machine {
     // 132 columns, else 80.
     pub columns132: bool,
@@ -26,6 +27,7 @@ pub struct Machine {
 
 // The answer of a write to a port: the machine afterwards, which is the machine before where the
 // write is refused.
+#[repr(C)]
 pub struct Written {
     pub refusal: u8,
     pub machine: Machine,

@@ -18,6 +18,7 @@ use machine::Machine;
 use readers::Reader;
 
 // The answer of the store: bit r of the marks is set when record r changed.
+#[repr(C)]
 pub struct Stored {
     pub refusal: u8,
     pub marks: u32,

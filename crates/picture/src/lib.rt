@@ -14,6 +14,7 @@ use chain::Head;
 use machine::Machine;
 
 // The answer of the drawing call: the bytes of screen memory that the walk read.
+#[repr(C)]
 pub struct Drawn {
     pub refusal: u8,
     pub reads: u16,

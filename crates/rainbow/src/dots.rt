@@ -1,0 +1,57 @@
+// The glyph table and the scan line.
+ghost use mathlib.Core.Path.{_≡_};
+ghost use Rattle.scan_line.specs.Line.{dotsOfLine};
+ghost use Rattle.scan_line.specs.Call.{drawnLine, drawLine};
+ghost use Rattle.rainbow.specs.Part.{partPlace};
+use machine::Machine;
+
+// Where a code's bytes stand in the table, and how many there are. A reference cannot be handed to C.
+#[repr(C)]
+pub struct PartPlace {
+    pub refusal: u8,
+    pub at: usize,
+    pub length: usize,
+}
+
+#[no_mangle]
+pub extern "C" fn rainbow_glyph_part(table: &[u8], code: u8) -> PartPlace
+    ensures { λ r. ⌜ r ≡ partPlace (now (table .entry)) code ⌝ }
+{
+    let part = glyphs::part(table, code);
+    let refusal = glyphs::refusal(part);
+    let length = part.len();
+    if refusal != lent::ACCEPTED {
+        return PartPlace {
+            refusal,
+            at: 0,
+            length,
+        };
+    }
+    PartPlace {
+        refusal,
+        at: code as usize * glyphs::CODE_BYTES,
+        length,
+    }
+}
+
+#[no_mangle]
+pub extern "C" fn rainbow_scan_line(
+    machine: Machine,
+    picture: &[u8],
+    table: &[u8],
+    row: usize,
+    scan: usize,
+    line: &mut [u8],
+) -> u8
+    ensures { λ r. ⌜ drawnLine r (now (line .exit))
+        ≡ drawLine machine (now (picture .entry)) (now (table .entry)) row scan (now (line .entry)) ⌝ }
+{
+    scan_line::draw(machine, picture, table, row, scan, line)
+}
+
+#[no_mangle]
+pub extern "C" fn rainbow_dots_of_line(machine: Machine) -> usize
+    ensures { λ r. ⌜ r ≡ dotsOfLine machine ⌝ }
+{
+    scan_line::dots_of_line(machine)
+}

@@ -1,0 +1,68 @@
+// The machine: power-up, the vertical tick, its settings and the write ports.
+ghost use mathlib.Core.Path.{_≡_};
+ghost use Rattle.machine.specs.Power.{powerUp, verticalTick};
+ghost use Rattle.machine.specs.Settings.{columns, blanked, graphics};
+ghost use Rattle.diagnostic.specs.Diagnostic.{writtenPort};
+ghost use Rattle.ports.specs.Ports.{writePort};
+ghost use Rattle.rainbow.specs.Version.{version};
+use machine::Machine;
+use machine::Written;
+
+// RAINBOW_VERSION of the header.
+const VERSION: u32 = 1;
+
+#[no_mangle]
+pub extern "C" fn rainbow_version() -> u32
+    ensures { λ r. ⌜ r ≡ version ⌝ }
+{
+    VERSION
+}
+
+#[no_mangle]
+pub extern "C" fn rainbow_power_up() -> Machine
+    ensures { λ r. ⌜ r ≡ powerUp ⌝ }
+{
+    Machine::power_up()
+}
+
+#[no_mangle]
+pub extern "C" fn rainbow_vertical_tick(machine: Machine) -> Machine
+    ensures { λ r. ⌜ r ≡ verticalTick machine ⌝ }
+{
+    machine.vertical_tick()
+}
+
+#[no_mangle]
+pub extern "C" fn rainbow_columns(machine: Machine) -> usize
+    ensures { λ r. ⌜ r ≡ columns machine ⌝ }
+{
+    machine.columns()
+}
+
+#[no_mangle]
+pub extern "C" fn rainbow_blanked(machine: Machine) -> bool
+    ensures { λ r. ⌜ r ≡ blanked machine ⌝ }
+{
+    machine.blanked()
+}
+
+#[no_mangle]
+pub extern "C" fn rainbow_graphics(machine: Machine) -> bool
+    ensures { λ r. ⌜ r ≡ graphics machine ⌝ }
+{
+    machine.graphics()
+}
+
+#[no_mangle]
+pub extern "C" fn rainbow_write_port(
+    machine: Machine,
+    shadow: &mut [u8],
+    nvm: &mut [u8],
+    port: u16,
+    code: u8,
+) -> Written
+    ensures { λ r. ⌜ writtenPort r (now (shadow .exit)) (now (nvm .exit))
+        ≡ writePort machine (now (shadow .entry)) (now (nvm .entry)) port code ⌝ }
+{
+    ports::write_port(machine, shadow, nvm, port, code)
+}

@@ -1,0 +1,66 @@
+// What the 8088 and the Z80 see, and the NVM's shadow.
+ghost use mathlib.Core.Path.{_≡_};
+ghost use Rattle.memories.specs.View8088.{read8088, store8088, stored8088};
+ghost use Rattle.memories.specs.ViewZ80.{readZ80, storeZ80, storedZ80};
+ghost use Rattle.shadow.specs.Shadow.{readShadow, writeShadow, writtenShadow};
+use lent::ByteRead;
+
+#[no_mangle]
+pub extern "C" fn rainbow_read_8088(
+    shared: &[u8],
+    screen: &[u8],
+    attribute: &[u8],
+    address: u32,
+) -> ByteRead
+    ensures { λ r. ⌜ r ≡ read8088 (now (shared .entry)) (now (screen .entry)) (now (attribute .entry)) address ⌝ }
+{
+    memories::read_8088(shared, screen, attribute, address)
+}
+
+#[no_mangle]
+pub extern "C" fn rainbow_store_8088(
+    shared: &mut [u8],
+    screen: &mut [u8],
+    attribute: &mut [u8],
+    address: u32,
+    byte: u8,
+) -> u8
+    ensures { λ r. ⌜ stored8088 r (now (shared .exit)) (now (screen .exit)) (now (attribute .exit))
+        ≡ store8088 (now (shared .entry)) (now (screen .entry)) (now (attribute .entry)) address byte ⌝ }
+{
+    memories::store_8088(shared, screen, attribute, address, byte)
+}
+
+#[no_mangle]
+pub extern "C" fn rainbow_read_z80(private: &[u8], shared: &[u8], address: u16) -> ByteRead
+    ensures { λ r. ⌜ r ≡ readZ80 (now (private .entry)) (now (shared .entry)) address ⌝ }
+{
+    memories::read_z80(private, shared, address)
+}
+
+#[no_mangle]
+pub extern "C" fn rainbow_store_z80(
+    private: &mut [u8],
+    shared: &mut [u8],
+    address: u16,
+    byte: u8,
+) -> u8
+    ensures { λ r. ⌜ storedZ80 r (now (private .exit)) (now (shared .exit))
+        ≡ storeZ80 (now (private .entry)) (now (shared .entry)) address byte ⌝ }
+{
+    memories::store_z80(private, shared, address, byte)
+}
+
+#[no_mangle]
+pub extern "C" fn rainbow_read_shadow(shadow: &[u8], place: usize) -> ByteRead
+    ensures { λ r. ⌜ r ≡ readShadow (now (shadow .entry)) place ⌝ }
+{
+    shadow::read_shadow(shadow, place)
+}
+
+#[no_mangle]
+pub extern "C" fn rainbow_write_shadow(shadow: &mut [u8], place: usize, value: u8) -> u8
+    ensures { λ r. ⌜ writtenShadow r (now (shadow .exit)) ≡ writeShadow (now (shadow .entry)) place value ⌝ }
+{
+    shadow::write_shadow(shadow, place, value)
+}

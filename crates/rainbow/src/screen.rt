@@ -1,0 +1,44 @@
+// The picture: drawn afresh, kept by a store, and which rows the store changed.
+ghost use mathlib.Core.Path.{_≡_};
+ghost use Rattle.picture.specs.Draw.{drawn, draw};
+ghost use Rattle.mending.specs.Store.{storedWithPicture, storeWithPicture};
+ghost use Rattle.marks.specs.Marks.{bitSet};
+use machine::Machine;
+use mending::Stored;
+use picture::Drawn;
+
+#[no_mangle]
+pub extern "C" fn rainbow_draw(
+    machine: Machine,
+    screen: &[u8],
+    attribute: &[u8],
+    picture: &mut [u8],
+) -> Drawn
+    ensures { λ r. ⌜ drawn r (now (picture .exit))
+        ≡ draw machine (now (screen .entry)) (now (attribute .entry)) (now (picture .entry)) ⌝ }
+{
+    picture::draw(machine, screen, attribute, picture)
+}
+
+#[no_mangle]
+pub extern "C" fn rainbow_store_with_picture(
+    machine: Machine,
+    shared: &mut [u8],
+    screen: &mut [u8],
+    attribute: &mut [u8],
+    picture: &mut [u8],
+    address: u32,
+    byte: u8,
+) -> Stored
+    ensures { λ r. ⌜ storedWithPicture r (now (shared .exit)) (now (screen .exit)) (now (attribute .exit)) (now (picture .exit))
+        ≡ storeWithPicture machine (now (shared .entry)) (now (screen .entry)) (now (attribute .entry)) (now (picture .entry)) address byte ⌝ }
+{
+    mending::store_with_picture(machine, shared, screen, attribute, picture, address, byte)
+}
+
+#[no_mangle]
+pub extern "C" fn rainbow_is_marked(marks: u32, row: usize) -> bool
+    ensures { λ r. ⌜ r ≡ bitSet marks row ⌝ }
+{
+    marks::is_marked(marks, row)
+}

@@ -1,0 +1,203 @@
+/* The DEC Rainbow 100's screen, memories and ports: the calls of librainbow.a, for C11 and C++17 on x86-64 Linux.
+ *
+ * Every function here is proved to meet the definition that docs/CALLS.md names, for every number and every byte
+ * that it is given. What no proof covers is this file, the compiler behind the proof, and the caller, who must see
+ * to this:
+ *   - a pointer and the length after it are those of one buffer. A length that is not the one listed below is
+ *     refused by 1, and then the pointer is not used: NULL with length 0 is such a length;
+ *   - no buffer that a call may change overlaps another buffer of the same call;
+ *   - a bool is true or false, as C makes it.
+ *
+ * The caller keeps the buffers and lends them for the length of a call; the library keeps nothing, and calls on
+ * different buffers may be made from different threads. The machine goes in by value and comes back.
+ *
+ * A refused call says why by its number, the lowest one that applies; every other number of its answer is 0, and
+ * no byte lent to it and no field of the machine changes.
+ */
+#ifndef RAINBOW_H
+#define RAINBOW_H
+
+#include <stdbool.h>
+#include <stddef.h>
+#include <stdint.h>
+
+#ifdef __cplusplus
+extern "C" {
+#endif
+
+/* Raised by every change of a number, a struct or a rule of this file. rainbow_version() is the archive's own. */
+#define RAINBOW_VERSION 1
+
+/* The length of each buffer, in bytes. */
+#define RAINBOW_SHARED_BYTES 65536
+#define RAINBOW_PRIVATE_BYTES 2048
+#define RAINBOW_SCREEN_BYTES 4096
+#define RAINBOW_ATTRIBUTE_BYTES 4096
+#define RAINBOW_GLYPH_BYTES 4096
+#define RAINBOW_NVM_BYTES 256
+#define RAINBOW_SHADOW_BYTES 256
+#define RAINBOW_PICTURE_BYTES 6432
+#define RAINBOW_LINE_BYTES 1188
+
+/* The numbers of refusal. */
+#define RAINBOW_ACCEPTED 0
+#define RAINBOW_REFUSED_LENGTH 1  /* a lent buffer's length differs from the list */
+#define RAINBOW_REFUSED_ADDRESS 2 /* the 8088's address lies in none of its three ranges */
+#define RAINBOW_REFUSED_PORT 3    /* the port is none of 04, 0A, 0C, 10C */
+#define RAINBOW_REFUSED_CODE 4    /* the code is not in that port's list */
+#define RAINBOW_REFUSED_PLACE 5   /* a row over 23, a scan outside 1 to 10, a shadow place over 255 */
+#define RAINBOW_REFUSED_EDGES 6   /* bits 6 and 7 of port 0A both rise in one write */
+
+/* The picture: a record for each row. A record is the row's start (two bytes, high byte first), its kind, its
+ * count, then 132 pairs of character and attribute. The count is the cells before FF, or one of the two below. */
+#define RAINBOW_ROWS 24
+#define RAINBOW_RECORD_BYTES 268
+#define RAINBOW_KIND_AT 2
+#define RAINBOW_COUNT_AT 3
+#define RAINBOW_PAIRS_AT 4
+#define RAINBOW_TORN 255
+#define RAINBOW_DARK 254
+
+/* The scans of a row. */
+#define RAINBOW_FIRST_SCAN 1
+#define RAINBOW_LAST_SCAN 10
+
+/* The machine's own state. */
+typedef struct rainbow_machine {
+    bool columns132; /* 132 columns, else 80 */
+    bool hertz50;    /* 50 Hz, else 60 */
+    bool interlace;
+    uint8_t latch;   /* the scroll latch, read modulo 16 */
+    bool blink;      /* the blink flip-flop */
+    bool interrupt;  /* the vertical interrupt */
+    bool reverse;    /* reverse field */
+    bool watchdog;   /* the watchdog is enabled */
+    uint8_t held;    /* the byte that port 0A holds */
+} rainbow_machine;
+
+/* The answer of a read. */
+typedef struct rainbow_byte_read {
+    uint8_t refusal;
+    uint8_t byte;
+} rainbow_byte_read;
+
+/* The answer of a write to a port: the machine afterwards, which is the one before if the write is refused. */
+typedef struct rainbow_written {
+    uint8_t refusal;
+    rainbow_machine machine;
+} rainbow_written;
+
+/* The answer of a drawing: how many bytes of screen memory the walk read. */
+typedef struct rainbow_drawn {
+    uint8_t refusal;
+    uint16_t reads;
+} rainbow_drawn;
+
+/* The answer of a store with a picture lent: bit r of marks is set exactly when record r changed. */
+typedef struct rainbow_stored {
+    uint8_t refusal;
+    uint32_t marks;
+} rainbow_stored;
+
+/* The part of a glyph table that is a code's: where it starts in the table, and how long it is. */
+typedef struct rainbow_part_place {
+    uint8_t refusal;
+    size_t at;
+    size_t length;
+} rainbow_part_place;
+
+/* RAINBOW_VERSION of the header that the archive was made for. */
+uint32_t rainbow_version(void);
+
+/* The machine at power-up: port 0A holds 00, 80 columns, 60 Hz, not interlaced, all else clear. */
+rainbow_machine rainbow_power_up(void);
+
+/* A vertical tick: sets the vertical interrupt. */
+rainbow_machine rainbow_vertical_tick(rainbow_machine machine);
+
+/* The column setting: 80 or 132. */
+size_t rainbow_columns(rainbow_machine machine);
+
+/* Whether the display is blanked: bit 1 of port 0A is clear. */
+bool rainbow_blanked(rainbow_machine machine);
+
+/* Whether the graphics board is selected: bit 2 of port 0A is set. */
+bool rainbow_graphics(rainbow_machine machine);
+
+/* Writes a code to a port.
+ * 04: 00 sets 80 columns, 10 sets 132, and both set interlace; 20 sets 60 Hz, 30 sets 50 Hz, and both clear it.
+ * 0C, 10C: 00 to 03 load the low two bits of the scroll latch, 04 to 07 its high two bits, 08 toggles the blink
+ * flip-flop, 09 clears the vertical interrupt, 0A sets reverse field, 0B clears it. An accepted write to 0C also
+ * enables the watchdog, one to 10C disables it.
+ * 0A: every byte is a code, and is held. Bit 6 going from 0 to 1 copies shadow to NVM, bit 7 going from 0 to 1
+ * copies NVM to shadow.
+ * Draw the picture afresh after a change of the column setting.
+ * Refused: 1, 3, 4, 6. */
+rainbow_written rainbow_write_port(rainbow_machine machine, uint8_t *shadow, size_t shadow_length, uint8_t *nvm,
+                                   size_t nvm_length, uint16_t port, uint8_t code);
+
+/* What the 8088 reads: shared at 00000 to 0FFFF, screen at EE000 to EEFFF, attribute at EF000 to EFFFF.
+ * Refused: 1, 2. */
+rainbow_byte_read rainbow_read_8088(const uint8_t *shared, size_t shared_length, const uint8_t *screen,
+                                    size_t screen_length, const uint8_t *attribute, size_t attribute_length,
+                                    uint32_t address);
+
+/* The 8088's store with no picture lent: changes the one byte, and leaves a kept picture behind.
+ * The answer is the refusal: 1, 2. */
+uint8_t rainbow_store_8088(uint8_t *shared, size_t shared_length, uint8_t *screen, size_t screen_length,
+                           uint8_t *attribute, size_t attribute_length, uint32_t address, uint8_t byte);
+
+/* What the Z80 reads: private at 0000 to 07FF and, from 0800 to FFFF, the shared byte of the same address.
+ * Refused: 1. */
+rainbow_byte_read rainbow_read_z80(const uint8_t *private_memory, size_t private_length, const uint8_t *shared,
+                                   size_t shared_length, uint16_t address);
+
+/* The Z80's store: changes that one byte and no other. The answer is the refusal: 1. */
+uint8_t rainbow_store_z80(uint8_t *private_memory, size_t private_length, uint8_t *shared, size_t shared_length,
+                          uint16_t address, uint8_t byte);
+
+/* The shadow by place 0 to 255: a read gives the byte modulo 16. Refused: 1, 5. */
+rainbow_byte_read rainbow_read_shadow(const uint8_t *shadow, size_t shadow_length, size_t place);
+
+/* A write stores the value modulo 16. The answer is the refusal: 1, 5. */
+uint8_t rainbow_write_shadow(uint8_t *shadow, size_t shadow_length, size_t place, uint8_t value);
+
+/* Draws the picture afresh: walks the chain of lines from place 0 at the column setting, 24 rows, and writes the
+ * record of each. A row runs to the first FF, the two bytes after which are the next row's start, low byte first;
+ * the attribute byte beside the first of them gives that row's kind. A row with no FF among its first capacity + 1
+ * bytes is torn, and all rows after it are dark.
+ * Refused: 1. */
+rainbow_drawn rainbow_draw(rainbow_machine machine, const uint8_t *screen, size_t screen_length,
+                           const uint8_t *attribute, size_t attribute_length, uint8_t *picture,
+                           size_t picture_length);
+
+/* The 8088's store with a picture lent, for every picture: the byte is stored; the records ahead of the first row
+ * that read it stay, those from it on become those of the walk after the store. A true picture stays true.
+ * Refused: 1, 2. */
+rainbow_stored rainbow_store_with_picture(rainbow_machine machine, uint8_t *shared, size_t shared_length,
+                                          uint8_t *screen, size_t screen_length, uint8_t *attribute,
+                                          size_t attribute_length, uint8_t *picture, size_t picture_length,
+                                          uint32_t address, uint8_t byte);
+
+/* Whether bit `row` of the marks is set. No bit from 32 up is. */
+bool rainbow_is_marked(uint32_t marks, size_t row);
+
+/* Where the sixteen scan bytes of a code stand in the caller's glyph table: code times 16. Refused: 1. */
+rainbow_part_place rainbow_glyph_part(const uint8_t *table, size_t table_length, uint8_t code);
+
+/* Draws scan 1 to 10 of row 0 to 23 of a picture, which may hold any bytes: all 1,188 bytes of the line, 0 for an
+ * unlit dot, 1 to 3 for a lit one. The whole line is 0 if the display is blanked, the graphics board selected, or
+ * the row dark.
+ * The answer is the refusal: 1, 5. */
+uint8_t rainbow_scan_line(rainbow_machine machine, const uint8_t *picture, size_t picture_length,
+                          const uint8_t *table, size_t table_length, size_t row, size_t scan, uint8_t *line,
+                          size_t line_length);
+
+/* How many dots a line has at the column setting: 800 or 1,188. The bytes after them are 0. */
+size_t rainbow_dots_of_line(rainbow_machine machine);
+
+#ifdef __cplusplus
+}
+#endif
+
+#endif
