@@ -3,15 +3,21 @@ use Prim.Native.Nat.{ℕ, zero, suc, _+_, _-_, _/_, _≤_, _<_}
 use mathlib.Core.Path.{_≡_, refl, sym, ap, _∙_}
 use mathlib.Core.List.{List}
 use mathlib.Core.Bool.{Bool, true, false, cond}
-use native.Mathlib.Nat.{mod-lt}
+use native.Mathlib.Nat.{mod-lt, mod-eq-of-lt}
 use native.Mathlib.Omega.{arith}
+use lib.ListN.{getD}
 use lib.Dec.{eqb}
 use borrow.Author.Tests.{eq-eqb, ne-eqb}
-use Rattle.chain.specs.Chain.{Chain, Row as ARow, Whole, Torn, Dark as DarkRow, byteAt, wide, capacity, firstFF, terminator, link, ended, rowFrom, next, rowAt}
+use Rattle.chain.specs.Chain.{Chain, places, Row as ARow, Whole, Torn, Dark as DarkRow, byteAt, wide, capacity, firstFF, terminator, link, ended, rowFrom, next, rowAt}
 use Rattle.chain.specs.Ahead.{rowAhead, aheadAfter, aheadOf, Placed}
 use Rattle.chain.specs.declared.Head.{Head}
 use Rattle.chain.specs.declared.Terminator.{Terminator}
 use Rattle.chain.specs.declared.Terminator.the-variants.{After, Missing}
+
+-- a place ahead of the end of memory is the byte's own
+pub straight : (memory : List ℕ) (place : ℕ) → place < places → getD memory place 0 ≡ byteAt memory place
+unfolding byteAt
+straight memory place under = ap (λ (p : ℕ). getD memory p 0) (sym (mod-eq-of-lt under))
 
 -- the search through `bytes` bytes that has passed `cells` of them and reads the next
 module _

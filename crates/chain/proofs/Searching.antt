@@ -3,7 +3,7 @@ use Prim.Native.Nat.{ℕ, zero, suc, _+_, _-_, _%_, _≤_, _<_}
 use mathlib.Core.Path.{_≡_, refl, sym, ap, _∙_}
 use mathlib.Core.List.{List, [], _∷_}
 use mathlib.Core.Bool.{Bool, true, false, _||_, true≢false, or-false, or-assoc}
-use native.Mathlib.Nat.{mod-eq-of-lt, add-zero}
+use native.Mathlib.Nat.{add-zero}
 use native.Mathlib.Omega.{arith}
 use lib.ListN.{length, getD, take, drop}
 use lib.Seq.{getD-take, getD-drop}
@@ -13,7 +13,7 @@ use borrow.Rule.Slice.PartMut.{midOf, mid-len}
 use Rattle.chain.specs.Chain.{places, byteAt, firstFF}
 use Rattle.chain.specs.Searching.{hasFF, Sought}
 use Rattle.chain.specs.declared.Terminator.the-variants.{After, Missing}
-use Rattle.chain.proofs.Laws.{search-ends, search-goes-on, search-fails}
+use Rattle.chain.proofs.Laws.{straight, search-ends, search-goes-on, search-fails}
 
 pub none-sought : (screen : List ℕ) (start bytes : ℕ) → Sought screen start bytes 0
 none-sought screen start bytes = record { within = omega arith; search-left = ap (firstFF screen start 0) (omega arith) }
@@ -78,5 +78,5 @@ part-has-none screen at n long room none i under e =
     let part = midOf at (at + n - at) screen in
     let is : getD part i 0 ≡ getD screen ((at + i) % places) 0 =
     getD-take (at + n - at) (drop at screen) i 0 (omega arith) ∙ getD-drop at screen i 0
-    ∙ ap (λ (p : ℕ). getD screen p 0) (sym (mod-eq-of-lt (omega arith))) in
+    ∙ straight screen (at + i) (omega arith) in
     none-is part none i (omega (arith, mid-len at (at + n) screen (omega arith))) (is ∙ e)

@@ -84,7 +84,7 @@ fn has_terminator(bytes: &[u8]) -> bool
 }
 
 // The bytes of a row, but for the last, that come before the end of memory.
-fn before_the_end(start: usize, capacity: usize) -> usize
+pub fn before_the_end(start: usize, capacity: usize) -> usize
     requires { ⌜ start < places ⌝ }
     ensures { λ r. ⌜ (r ≤ capacity) × (start + r ≤ places) ⌝ }
 {

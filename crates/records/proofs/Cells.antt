@@ -11,14 +11,8 @@ use Rattle.chain.specs.Chain.{byteAt, firstFF}
 use Rattle.chain.specs.declared.Terminator.the-variants.{After, Missing}
 use Rattle.chain.proofs.Laws.{search-ends, search-goes-on, search-fails}
 use Rattle.records.specs.Record.{recordBytes, headBytes, recordPairs, cellPairs, fillPairs}
-use Rattle.records.specs.Walked.{pairsOf, Found}
+use Rattle.records.specs.Walked.{pairsOf, Passed, Found}
 use Rattle.records.proofs.Laws.{pair-stored}
-
-pub record Passed (screen attribute : List ℕ) (start capacity : ℕ) (drawn : List ℕ) (cell : ℕ) : Type 0 where
-  pub within : cell ≤ capacity
-  pub same : length drawn ≡ recordBytes
-  pub search-left : firstFF screen start 0 (capacity + 1) ≡ firstFF screen start cell (capacity + 1 - cell)
-  pub written : take (2 * cell) (pairsOf drawn) ≡ cellPairs screen attribute start cell
 
 pub none-passed :
     {screen attribute : List ℕ} {start capacity : ℕ} {drawn : List ℕ} → length drawn ≡ recordBytes

@@ -1,8 +1,8 @@
 -- What the functions that draw one row promise.
-use Prim.Native.Nat.{ℕ, _+_, _-_, _*_}
+use Prim.Native.Nat.{ℕ, _+_, _-_, _*_, _≤_}
 use mathlib.Core.Path.{_≡_}
 use mathlib.Core.List.{List, _++_}
-use lib.ListN.{take, drop}
+use lib.ListN.{length, take, drop}
 use Rattle.chain.specs.Chain.{Chain, firstFF, link}
 use Rattle.chain.specs.Reading.{reads}
 use Rattle.chain.specs.Ahead.{rowAhead, aheadAfter}
@@ -11,7 +11,7 @@ use Rattle.chain.specs.declared.Terminator.{Terminator}
 use Rattle.chain.specs.declared.Terminator.the-variants.{After, Missing}
 use Rattle.chain.specs.declared.Ahead.{Ahead}
 use Rattle.chain.specs.declared.Ahead.the-variants.{Row}
-use Rattle.records.specs.Record.{headBytes, recordPairs, cellPairs, fillPairs, header, recordOf}
+use Rattle.records.specs.Record.{recordBytes, headBytes, recordPairs, cellPairs, fillPairs, header, recordOf}
 use Rattle.records.specs.declared.Walked.{Walked}
 
 -- the bytes of a record's pairs
@@ -22,6 +22,13 @@ pairsOf bytes = drop headBytes bytes
 abbrev pub cellsOf : (capacity : ℕ) → Terminator → ℕ
 cellsOf capacity (After cells) = cells
 cellsOf capacity Missing = capacity
+
+-- a search that has passed some cells, and written their pairs: what is left of it gives the answer
+pub record Passed (screen attribute : List ℕ) (start capacity : ℕ) (drawn : List ℕ) (cell : ℕ) : Type 0 where
+  pub within : cell ≤ capacity
+  pub same : length drawn ≡ recordBytes
+  pub search-left : firstFF screen start 0 (capacity + 1) ≡ firstFF screen start cell (capacity + 1 - cell)
+  pub written : take (2 * cell) (pairsOf drawn) ≡ cellPairs screen attribute start cell
 
 -- what the search answers, and the pairs that it has written
 pub record Found (screen attribute : List ℕ) (start capacity : ℕ) (drawn : List ℕ) (t : Terminator) : Type 0 where

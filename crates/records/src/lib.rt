@@ -8,7 +8,7 @@ ghost use Rattle.lent.specs.Lengths.{screenBytes, attributeBytes};
 ghost use Rattle.chain.specs.Chain.{chain, places};
 ghost use Rattle.chain.specs.Ahead.{Placed};
 ghost use Rattle.records.specs.Record.{recordBytes, headBytes, recordPairs, fillPairs, header};
-ghost use Rattle.records.specs.Walked.{pairsOf, Found, finished, wholeWalked, walked, drawnAhead};
+ghost use Rattle.records.specs.Walked.{pairsOf, Passed, Found, finished, wholeWalked, walked, drawnAhead};
 use chain::Ahead;
 use chain::Head;
 use chain::Terminator;
@@ -33,7 +33,38 @@ pub struct Walked {
     pub next: Ahead,
 }
 
-// Finds the terminator. The search writes the pair of each byte that it passes, so that each byte is
+// Passes cells of a row up to its terminator, or to the end of memory: most rows end ahead of it, and
+// for their places there is no modulo.
+fn draw_straight(
+    screen: &[u8],
+    attribute: &[u8],
+    start: usize,
+    capacity: usize,
+    into: &mut [u8],
+) -> usize
+    requires { ⌜ length (now screen) ≡ screenBytes ⌝ }
+    requires { ⌜ length (now attribute) ≡ attributeBytes ⌝ }
+    requires { ⌜ (start < places) × (capacity ≤ recordPairs) ⌝ }
+    requires { ⌜ length (now into) ≡ recordBytes ⌝ }
+    ensures { λ r. ⌜ Passed (now (screen .entry)) (now (attribute .entry)) start capacity (now (into .exit)) r ⌝ }
+{
+    let room = chain::before_the_end(start, capacity);
+    let mut cell = 0;
+    while cell < room {
+        let place = start + cell;
+        let character = screen[place];
+        if character == chain::TERMINATOR {
+            return cell;
+        }
+        let at = HEAD_BYTES + 2 * cell;
+        into[at] = character;
+        into[at + 1] = attribute[place] % 16;
+        cell += 1;
+    }
+    cell
+}
+
+// Finds the terminator. The search writes the pair of each byte that it passes, so that each cell is
 // read once.
 fn draw_to_terminator(
     screen: &[u8],
@@ -48,7 +79,7 @@ fn draw_to_terminator(
     requires { ⌜ length (now into) ≡ recordBytes ⌝ }
     ensures { λ r. ⌜ Found (now (screen .entry)) (now (attribute .entry)) start capacity (now (into .exit)) r ⌝ }
 {
-    let mut cell = 0;
+    let mut cell = draw_straight(screen, attribute, start, capacity, into);
     while cell < capacity {
         let character = chain::byte_at(screen, start + cell);
         if character == chain::TERMINATOR {

@@ -3,7 +3,8 @@ use Prim.Native.Nat.{_-_}
 use native.Mathlib.Omega.{arith}
 use lib.ListN.{length-set}
 use borrow.Author.Needs.{needs}
-use Rattle.records.proofs.Cells.{Passed, none-passed, one-passed, found, not-found}
+use Rattle.records.specs.Walked.{Passed}
+use Rattle.records.proofs.Cells.{one-passed, found, not-found}
 use Rattle.records.proofs.draw_to_terminator.Statement.{statement}
 use Rattle.records.proofs.draw_to_terminator.Tie as tie
 
@@ -13,8 +14,11 @@ Inv-loop screen attribute start capacity into₀ cell₀ into cell = Passed scre
 abbrev μ-loop : tie.MeasureT-loop
 μ-loop screen attribute start capacity into₀ cell₀ into cell = capacity - cell
 
+draw-straight-requires : tie.Need-draw-straight-requires Inv-loop μ-loop
+draw-straight-requires c κs = search needs
+
 loop-holds : tie.Need-loop-holds Inv-loop μ-loop
-loop-holds c = none-passed (search needs)
+loop-holds c = c .before .before .draw-straight .ensures
 
 add-byte-at : tie.Need-add-byte-at Inv-loop μ-loop
 add-byte-at c = search needs
@@ -85,6 +89,7 @@ draw-to-terminator-spec =
     (tie.spec
     Inv-loop
     μ-loop
+    draw-straight-requires
     loop-holds
     add-byte-at
     byte-at-requires

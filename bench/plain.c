@@ -1,0 +1,185 @@
+#include "plain.h"
+
+#include <string.h>
+
+enum { PLACES = 4096, PAIRS = 132 };
+
+typedef struct {
+    unsigned start;
+    unsigned kind;
+    bool dark;
+} head;
+
+static unsigned capacity_of(unsigned columns, unsigned kind) { return (kind & 3) == 3 ? columns : columns / 2; }
+
+static head link_after(const uint8_t *screen, const uint8_t *attribute, unsigned ff) {
+    unsigned low = (ff + 1) % PLACES, high = (ff + 2) % PLACES;
+    head next = {screen[low] | (screen[high] & 15u) << 8, attribute[low] & 7u, false};
+    return next;
+}
+
+/* Draws one row, and says how many bytes of screen memory it read. */
+static unsigned draw_row(unsigned columns, const uint8_t *screen, const uint8_t *attribute, head *at, uint8_t *record) {
+    uint8_t *pair = record + RAINBOW_PAIRS_AT, *end = pair + 2 * PAIRS;
+    unsigned reads = 0, cells = 0;
+    record[0] = (uint8_t)(at->start >> 8);
+    record[1] = (uint8_t)at->start;
+    record[RAINBOW_KIND_AT] = (uint8_t)at->kind;
+    if (at->dark) {
+        record[RAINBOW_COUNT_AT] = RAINBOW_DARK;
+    } else {
+        unsigned capacity = capacity_of(columns, at->kind), place = at->start;
+        while (cells < capacity && screen[place] != 0xFF) {
+            *pair++ = screen[place];
+            *pair++ = attribute[place] & 15;
+            place = (place + 1) % PLACES;
+            cells++;
+        }
+        if (screen[place] == 0xFF) {
+            record[RAINBOW_COUNT_AT] = (uint8_t)cells;
+            *at = link_after(screen, attribute, place);
+            reads = cells + 3;
+        } else {
+            record[RAINBOW_COUNT_AT] = RAINBOW_TORN;
+            at->start = 0, at->kind = 3, at->dark = true;
+            reads = capacity + 1;
+        }
+    }
+    while (pair < end) {
+        *pair++ = 0x20;
+        *pair++ = 0x0E;
+    }
+    return reads;
+}
+
+rainbow_drawn plain_draw(rainbow_machine machine, const uint8_t *screen, size_t screen_length,
+                         const uint8_t *attribute, size_t attribute_length, uint8_t *picture,
+                         size_t picture_length) {
+    rainbow_drawn drawn = {RAINBOW_REFUSED_LENGTH, 0};
+    if (screen_length != RAINBOW_SCREEN_BYTES || attribute_length != RAINBOW_ATTRIBUTE_BYTES ||
+        picture_length != RAINBOW_PICTURE_BYTES)
+        return drawn;
+    head at = {0, 3, false};
+    unsigned columns = machine.columns132 ? 132 : 80, reads = 0;
+    for (int row = 0; row < RAINBOW_ROWS; row++)
+        reads += draw_row(columns, screen, attribute, &at, picture + row * RAINBOW_RECORD_BYTES);
+    drawn.refusal = RAINBOW_ACCEPTED;
+    drawn.reads = (uint16_t)reads;
+    return drawn;
+}
+
+uint8_t plain_store_8088(uint8_t *shared, size_t shared_length, uint8_t *screen, size_t screen_length,
+                         uint8_t *attribute, size_t attribute_length, uint32_t address, uint8_t byte) {
+    if (shared_length != RAINBOW_SHARED_BYTES || screen_length != RAINBOW_SCREEN_BYTES ||
+        attribute_length != RAINBOW_ATTRIBUTE_BYTES)
+        return RAINBOW_REFUSED_LENGTH;
+    if (address < 0x10000)
+        shared[address] = byte;
+    else if (address >= 0xEE000 && address < 0xEF000)
+        screen[address - 0xEE000] = byte;
+    else if (address >= 0xEF000 && address < 0xF0000)
+        attribute[address - 0xEF000] = byte;
+    else
+        return RAINBOW_REFUSED_ADDRESS;
+    return RAINBOW_ACCEPTED;
+}
+
+/* Passes one row, and says whether it reads a place of one of the two memories. */
+static bool pass_row(unsigned columns, const uint8_t *screen, const uint8_t *attribute, head *at, bool beside,
+                     unsigned place) {
+    unsigned capacity = capacity_of(columns, at->kind), start = at->start, cells = 0;
+    unsigned from = (place - start) % PLACES;
+    while (cells < capacity && screen[(start + cells) % PLACES] != 0xFF)
+        cells++;
+    if (screen[(start + cells) % PLACES] != 0xFF) {
+        at->dark = true;
+        return from < capacity + !beside;
+    }
+    *at = link_after(screen, attribute, (start + cells) % PLACES);
+    return beside ? from < cells || from == cells + 1 : from < cells + 3;
+}
+
+rainbow_stored plain_store_with_picture(rainbow_machine machine, uint8_t *shared, size_t shared_length,
+                                        uint8_t *screen, size_t screen_length, uint8_t *attribute,
+                                        size_t attribute_length, uint8_t *picture, size_t picture_length,
+                                        uint32_t address, uint8_t byte) {
+    rainbow_stored stored = {RAINBOW_REFUSED_LENGTH, 0};
+    if (picture_length != RAINBOW_PICTURE_BYTES)
+        return stored;
+    if (address < 0xEE000 || address >= 0xF0000 || shared_length != RAINBOW_SHARED_BYTES ||
+        screen_length != RAINBOW_SCREEN_BYTES || attribute_length != RAINBOW_ATTRIBUTE_BYTES) {
+        stored.refusal = plain_store_8088(shared, shared_length, screen, screen_length, attribute, attribute_length,
+                                          address, byte);
+        return stored;
+    }
+    unsigned columns = machine.columns132 ? 132 : 80, row = 0;
+    bool beside = address >= 0xEF000;
+    head at = {0, 3, false}, before = at;
+    bool found = false;
+    for (; !found && row < RAINBOW_ROWS && !at.dark; row += !found) {
+        before = at;
+        found = pass_row(columns, screen, attribute, &at, beside, address % PLACES);
+    }
+    if (!found)
+        row = RAINBOW_ROWS;
+    (beside ? attribute : screen)[address % PLACES] = byte;
+    stored.refusal = RAINBOW_ACCEPTED;
+    for (at = before; row < RAINBOW_ROWS; row++) {
+        uint8_t drawn[RAINBOW_RECORD_BYTES], *record = picture + row * RAINBOW_RECORD_BYTES;
+        draw_row(columns, screen, attribute, &at, drawn);
+        if (memcmp(record, drawn, sizeof drawn) != 0) {
+            memcpy(record, drawn, sizeof drawn);
+            stored.marks |= 1u << row;
+        }
+    }
+    return stored;
+}
+
+uint8_t plain_scan_line(rainbow_machine machine, const uint8_t *picture, size_t picture_length,
+                        const uint8_t *table, size_t table_length, size_t row, size_t scan, uint8_t *line,
+                        size_t line_length) {
+    if (picture_length != RAINBOW_PICTURE_BYTES || table_length != RAINBOW_GLYPH_BYTES ||
+        line_length != RAINBOW_LINE_BYTES)
+        return RAINBOW_REFUSED_LENGTH;
+    if (row >= RAINBOW_ROWS || scan < RAINBOW_FIRST_SCAN || scan > RAINBOW_LAST_SCAN)
+        return RAINBOW_REFUSED_PLACE;
+    const uint8_t *record = picture + row * RAINBOW_RECORD_BYTES;
+    if ((machine.held & 2) == 0 || (machine.held & 4) != 0 || record[RAINBOW_COUNT_AT] == RAINBOW_DARK) {
+        memset(line, 0, RAINBOW_LINE_BYTES);
+        return RAINBOW_ACCEPTED;
+    }
+    unsigned kind = record[RAINBOW_KIND_AT] & 3, columns = machine.columns132 ? 132 : 80;
+    unsigned shown = (unsigned)scan, fill = machine.columns132 ? 1 : 2;
+    if (kind == 0)
+        shown = shown / 2 + shown % 2 + 5;
+    else if (kind == 1)
+        shown = shown / 2 + shown % 2;
+    unsigned address = (shown + 14) % 16, cells = capacity_of(columns, kind);
+    uint8_t *dot = line;
+    for (unsigned cell = 0; cell < cells; cell++) {
+        uint8_t code = record[RAINBOW_PAIRS_AT + 2 * cell], attribute = record[RAINBOW_PAIRS_AT + 2 * cell + 1];
+        uint8_t glyph = table[code * 16u + address];
+        uint8_t lit = (attribute & 2) ? 2 : 3;
+        if (!(attribute & 4) && machine.blink)
+            lit--;
+        if (!(attribute & 8) && shown == 9)
+            glyph = 0xFF;
+        if ((attribute & 1) ^ machine.reverse)
+            glyph = (uint8_t)~glyph;
+        if (kind == 3) {
+            for (int bit = 7; bit >= 0; bit--)
+                *dot++ = (glyph >> bit & 1) ? lit : 0;
+            for (unsigned again = 0; again < fill; again++)
+                *dot++ = (glyph & 1) ? lit : 0;
+        } else {
+            for (int bit = 7; bit >= 0; bit--) {
+                *dot++ = (glyph >> bit & 1) ? lit : 0;
+                *dot++ = (glyph >> bit & 1) ? lit : 0;
+            }
+            for (unsigned again = 0; again < 2 * fill; again++)
+                *dot++ = (glyph & 1) ? lit : 0;
+        }
+    }
+    memset(dot, 0, (size_t)(line + RAINBOW_LINE_BYTES - dot));
+    return RAINBOW_ACCEPTED;
+}

@@ -1,0 +1,95 @@
+-- Each byte that is passed is written; its place is its own.
+use Prim.Native.Nat.{_+_, _-_}
+use native.Mathlib.Omega.{arith}
+use lib.ListN.{length-set}
+use borrow.Author.Needs.{needs}
+use Rattle.chain.proofs.Laws.{straight}
+use Rattle.records.specs.Walked.{Passed}
+use Rattle.records.proofs.Cells.{none-passed, one-passed}
+use Rattle.records.proofs.draw_straight.Statement.{statement}
+use Rattle.records.proofs.draw_straight.Tie as tie
+
+abbrev Inv-loop : tie.InvT-loop
+Inv-loop screen attribute start capacity into₀ room cell₀ into cell = Passed screen attribute start capacity into cell
+
+abbrev μ-loop : tie.MeasureT-loop
+μ-loop screen attribute start capacity into₀ room cell₀ into cell = room - cell
+
+before-the-end-requires : tie.Need-before-the-end-requires Inv-loop μ-loop
+before-the-end-requires c κs = search needs
+
+loop-holds : tie.Need-loop-holds Inv-loop μ-loop
+loop-holds c = none-passed (search needs)
+
+add-place : tie.Need-add-place Inv-loop μ-loop
+add-place c = search needs
+
+shared-slice-read-character : tie.Need-shared-slice-read-character Inv-loop μ-loop
+shared-slice-read-character c = search needs
+
+same-length : tie.Need-same-length Inv-loop μ-loop
+same-length c = search needs
+
+returns : tie.Need-returns Inv-loop μ-loop
+returns c = c .before .before .before .loop .inv
+
+mul-at : tie.Need-mul-at Inv-loop μ-loop
+mul-at c = search needs
+
+add-at : tie.Need-add-at Inv-loop μ-loop
+add-at c = search needs
+
+slice-write-into : tie.Need-slice-write-into Inv-loop μ-loop
+slice-write-into c = search needs
+
+shared-slice-read-into : tie.Need-shared-slice-read-into Inv-loop μ-loop
+shared-slice-read-into c = search needs
+
+add-into : tie.Need-add-into Inv-loop μ-loop
+add-into c = search needs
+
+slice-write-into-2 : tie.Need-slice-write-into-2 Inv-loop μ-loop
+slice-write-into-2 c = simp length-set (omega arith)
+
+add-cell : tie.Need-add-cell Inv-loop μ-loop
+add-cell c = search needs
+
+loop-less : tie.Need-loop-less Inv-loop μ-loop
+loop-less c = search needs
+
+loop-again : tie.Need-loop-again Inv-loop μ-loop
+loop-again c =
+    let l = c .before .before .before .before in
+    let a = l .before .before .before .before .before .args in
+    one-passed (l .loop .inv) (straight (a .screen .now) (a .start + l .loop .cell) (omega arith))
+    (straight (a .attribute .now) (a .start + l .loop .cell) (omega arith)) (search needs) (omega arith) (c .before .if1 .left)
+
+same-length-2 : tie.Need-same-length-2 Inv-loop μ-loop
+same-length-2 c = search needs
+
+returns-2 : tie.Need-returns-2 Inv-loop μ-loop
+returns-2 c = c .before .loop .inv
+
+pub draw-straight-spec : {M : Type 1} → statement M
+draw-straight-spec =
+    tie.close
+    (tie.spec
+    Inv-loop
+    μ-loop
+    before-the-end-requires
+    loop-holds
+    add-place
+    shared-slice-read-character
+    same-length
+    returns
+    mul-at
+    add-at
+    slice-write-into
+    shared-slice-read-into
+    add-into
+    slice-write-into-2
+    add-cell
+    loop-less
+    loop-again
+    same-length-2
+    returns-2)
