@@ -14,9 +14,10 @@ use Rattle.rainbow.specs.declared.dots.PartPlace.{PartPlace}
 unfoldable pub partPlace : (table : List ℕ) → (code : ℕ) → PartPlace
 partPlace table code =
     record {
-        refusal = partRefusal (glyphPart table code);
-        at = cond (eqb (partRefusal (glyphPart table code)) accepted) (code * codeBytes) 0;
-        length = length (glyphPart table code) }
+      refusal = partRefusal (glyphPart table code);
+      at = cond (eqb (partRefusal (glyphPart table code)) accepted) (code * codeBytes) 0;
+      length = length (glyphPart table code);
+    }
 
 -- what stands there is the part that `glyphs::part` hands back
 abbrev pub IsThePart : Type 0

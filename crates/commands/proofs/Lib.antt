@@ -1,0 +1,6 @@
+pub mod Walks
+pub mod Alike
+pub mod Digits
+pub mod Searches
+pub mod Fitting
+pub mod Worked

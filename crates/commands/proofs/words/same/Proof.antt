@@ -1,0 +1,56 @@
+use Prim.Native.Nat.{_-_}
+use native.Mathlib.Omega.{arith}
+use lib.ListN.{length}
+use borrow.Author.Needs.{needs}
+use Rattle.commands.proofs.Alike.{Alike, alike-begins, alike-on, alike-fails, alike-ends, other-length}
+use Rattle.commands.proofs.words.same.Statement.{statement}
+use Rattle.commands.proofs.words.same.Tie as tie
+
+abbrev Inv-loop : tie.InvT-loop
+Inv-loop a b at₀ at = Alike a b at
+
+abbrev μ-loop : tie.MeasureT-loop
+μ-loop a b at₀ at = length a - at
+
+returns : tie.Need-returns Inv-loop μ-loop
+returns c = other-length _ _ (c .if1 .taken)
+
+loop-holds : tie.Need-loop-holds Inv-loop μ-loop
+loop-holds c = alike-begins (c .if1 .left)
+
+shared-slice-read-if2 : tie.Need-shared-slice-read-if2 Inv-loop μ-loop
+shared-slice-read-if2 c = search needs
+
+shared-slice-read-if2-2 : tie.Need-shared-slice-read-if2-2 Inv-loop μ-loop
+shared-slice-read-if2-2 c = search needs
+
+returns-2 : tie.Need-returns-2 Inv-loop μ-loop
+returns-2 c = alike-fails (c .before .before .before .before .loop .inv) (omega arith) (c .if2 .taken)
+
+add-at : tie.Need-add-at Inv-loop μ-loop
+add-at c = search needs
+
+loop-less : tie.Need-loop-less Inv-loop μ-loop
+loop-less c = search needs
+
+loop-again : tie.Need-loop-again Inv-loop μ-loop
+loop-again c = alike-on (c .before .before .before .before .loop .inv) (omega arith) (c .if2 .left)
+
+returns-3 : tie.Need-returns-3 Inv-loop μ-loop
+returns-3 c = alike-ends (c .before .loop .inv) (omega arith)
+
+pub same-spec : {M : Type 1} → statement M
+same-spec =
+    tie.close
+    (tie.spec
+    Inv-loop
+    μ-loop
+    returns
+    loop-holds
+    shared-slice-read-if2
+    shared-slice-read-if2-2
+    returns-2
+    add-at
+    loop-less
+    loop-again
+    returns-3)

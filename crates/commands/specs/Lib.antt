@@ -1,0 +1,5 @@
+pub mod Words
+pub mod Slots
+pub mod Meanings
+pub mod Commands
+pub mod Cases

@@ -1,0 +1,40 @@
+-- The words of a line: the longest runs of bytes that are no blanks.
+use Prim.Native.Nat.{ℕ}
+use mathlib.Core.List.{List, [], _∷_, _++_}
+use mathlib.Core.Bool.{Bool, true, false, cond, not, _&&_, _||_}
+use lib.ListN.{getD}
+use lib.Dec.{eqb}
+
+-- a space, a tab, a carriage return
+unfoldable pub blank : (byte : ℕ) → Bool
+blank byte = eqb byte 0x20 || eqb byte 0x09 || eqb byte 0x0D
+
+-- the bytes before the first blank
+unfoldable pub run : (line : List ℕ) → List ℕ
+run [] = []
+run (byte ∷ line) = cond (blank byte) [] (byte ∷ run line)
+
+-- a word begins at each byte that is no blank and does not stand inside a word
+unfoldable pub wordsFrom : (inside : Bool) → (line : List ℕ) → List (List ℕ)
+wordsFrom inside [] = []
+wordsFrom inside (byte ∷ line) =
+    cond (inside || blank byte) [] (run (byte ∷ line) ∷ []) ++ wordsFrom (not (blank byte)) line
+
+abbrev pub words : (line : List ℕ) → List (List ℕ)
+words line = wordsFrom false line
+
+-- the first word, or no bytes where there is none
+abbrev pub firstWord : (line : List ℕ) → List ℕ
+firstWord line = getD (words line) 0 []
+
+-- the line without the blanks that it begins with
+unfoldable pub unblanked : (line : List ℕ) → List ℕ
+unblanked [] = []
+unblanked (byte ∷ line) = cond (blank byte) (unblanked line) (byte ∷ line)
+
+-- whether two words are the same bytes
+unfoldable pub same : (a b : List ℕ) → Bool
+same [] [] = true
+same [] (y ∷ b) = false
+same (x ∷ a) [] = false
+same (x ∷ a) (y ∷ b) = eqb x y && same a b

@@ -1,0 +1,87 @@
+use Prim.Native.Nat.{_-_, _≤_}
+use mathlib.Core.Path.{_≡_}
+use lib.ListN.{length}
+use borrow.Author.Needs.{needs}
+use Rattle.monitor.proofs.dots.show.Statement.{statement}
+use Rattle.monitor.proofs.dots.show.Tie as tie
+
+abbrev Inv-loop : tie.InvT-loop
+Inv-loop line dots text₀ dot₀ text dot = (dot ≤ 1188) × (length text ≡ 1188)
+
+abbrev μ-loop : tie.MeasureT-loop
+μ-loop line dots text₀ dot₀ text dot = 1188 - dot
+
+loop-holds : tie.Need-loop-holds Inv-loop μ-loop
+loop-holds c = search needs
+
+byte-of-requires : tie.Need-byte-of-requires Inv-loop μ-loop
+byte-of-requires c κs = search needs
+
+shown-requires : tie.Need-shown-requires Inv-loop μ-loop
+shown-requires c κs = search needs
+
+array-write-text : tie.Need-array-write-text Inv-loop μ-loop
+array-write-text c = search needs
+
+add-dot : tie.Need-add-dot Inv-loop μ-loop
+add-dot c = search needs
+
+loop-less : tie.Need-loop-less Inv-loop μ-loop
+loop-less c = search needs
+
+loop-again : tie.Need-loop-again Inv-loop μ-loop
+loop-again c = search needs
+
+sub-line : tie.Need-sub-line Inv-loop μ-loop
+sub-line c = search needs
+
+part-line-start : tie.Need-part-line-start Inv-loop μ-loop
+part-line-start c = search needs
+
+part-line-end : tie.Need-part-line-end Inv-loop μ-loop
+part-line-end c = search needs
+
+line-requires : tie.Need-line-requires Inv-loop μ-loop
+line-requires c κs = search needs
+
+sub-line-2 : tie.Need-sub-line-2 Inv-loop μ-loop
+sub-line-2 c = search needs
+
+part-line-start-2 : tie.Need-part-line-start-2 Inv-loop μ-loop
+part-line-start-2 c = search needs
+
+part-line-end-2 : tie.Need-part-line-end-2 Inv-loop μ-loop
+part-line-end-2 c = search needs
+
+line-requires-2 : tie.Need-line-requires-2 Inv-loop μ-loop
+line-requires-2 c κs = search needs
+
+returns : tie.Need-returns Inv-loop μ-loop
+returns c = search needs
+
+returns-2 : tie.Need-returns-2 Inv-loop μ-loop
+returns-2 c = search needs
+
+pub show-spec : {M : Type 1} → statement M
+show-spec =
+    tie.close
+    (tie.spec
+    Inv-loop
+    μ-loop
+    loop-holds
+    byte-of-requires
+    shown-requires
+    array-write-text
+    add-dot
+    loop-less
+    loop-again
+    sub-line
+    part-line-start
+    part-line-end
+    line-requires
+    sub-line-2
+    part-line-start-2
+    part-line-end-2
+    line-requires-2
+    returns
+    returns-2)

@@ -1,0 +1,33 @@
+use Prim.Native.Nat.{_-_, _≤_}
+use borrow.Author.Needs.{needs}
+use Rattle.monitor.proofs.rows.list.Statement.{statement}
+use Rattle.monitor.proofs.rows.list.Tie as tie
+
+abbrev Inv-loop : tie.InvT-loop
+Inv-loop picture row₀ row = row ≤ 24
+
+abbrev μ-loop : tie.MeasureT-loop
+μ-loop picture row₀ row = 24 - row
+
+loop-holds : tie.Need-loop-holds Inv-loop μ-loop
+loop-holds c = search needs
+
+list-row-requires : tie.Need-list-row-requires Inv-loop μ-loop
+list-row-requires c κs = search needs
+
+add-row : tie.Need-add-row Inv-loop μ-loop
+add-row c = search needs
+
+loop-less : tie.Need-loop-less Inv-loop μ-loop
+loop-less c = search needs
+
+loop-again : tie.Need-loop-again Inv-loop μ-loop
+loop-again c = search needs
+
+returns : tie.Need-returns Inv-loop μ-loop
+returns c = search needs
+
+pub list-spec : {M : Type 1} → statement M
+list-spec =
+    tie.close
+    (tie.spec Inv-loop μ-loop loop-holds list-row-requires add-row loop-less loop-again returns)

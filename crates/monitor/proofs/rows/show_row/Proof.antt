@@ -1,0 +1,115 @@
+use Prim.Native.Nat.{_-_, _≤_}
+use mathlib.Core.Path.{_≡_}
+use lib.ListN.{length}
+use borrow.Author.Needs.{needs}
+use Rattle.monitor.proofs.rows.show_row.Statement.{statement}
+use Rattle.monitor.proofs.rows.show_row.Tie as tie
+
+abbrev Inv-loop : tie.InvT-loop
+Inv-loop picture row columns at text₀ cell₀ t7 t8 text cell = (cell ≤ 132) × (length text ≡ 132)
+
+abbrev μ-loop : tie.MeasureT-loop
+μ-loop picture row columns at text₀ cell₀ t7 t8 text cell = 132 - cell
+
+mul-at : tie.Need-mul-at Inv-loop μ-loop
+mul-at c = search needs
+
+add-at : tie.Need-add-at Inv-loop μ-loop
+add-at c = search needs
+
+loop-holds : tie.Need-loop-holds Inv-loop μ-loop
+loop-holds c = search needs
+
+mul-byte-of : tie.Need-mul-byte-of Inv-loop μ-loop
+mul-byte-of c = search needs
+
+add-byte-of : tie.Need-add-byte-of Inv-loop μ-loop
+add-byte-of c = search needs
+
+byte-of-requires : tie.Need-byte-of-requires Inv-loop μ-loop
+byte-of-requires c κs = search needs
+
+shown-requires : tie.Need-shown-requires Inv-loop μ-loop
+shown-requires c κs = search needs
+
+array-write-text : tie.Need-array-write-text Inv-loop μ-loop
+array-write-text c = search needs
+
+add-cell : tie.Need-add-cell Inv-loop μ-loop
+add-cell c = search needs
+
+loop-less : tie.Need-loop-less Inv-loop μ-loop
+loop-less c = search needs
+
+loop-again : tie.Need-loop-again Inv-loop μ-loop
+loop-again c = search needs
+
+slice-aggregate-text : tie.Need-slice-aggregate-text Inv-loop μ-loop
+slice-aggregate-text c = search needs
+
+text-requires : tie.Need-text-requires Inv-loop μ-loop
+text-requires c κs = search needs
+
+sub-text : tie.Need-sub-text Inv-loop μ-loop
+sub-text c = search needs
+
+part-text-start : tie.Need-part-text-start Inv-loop μ-loop
+part-text-start c = search needs
+
+part-text-end : tie.Need-part-text-end Inv-loop μ-loop
+part-text-end c = search needs
+
+text-requires-2 : tie.Need-text-requires-2 Inv-loop μ-loop
+text-requires-2 c κs = search needs
+
+sub-text-2 : tie.Need-sub-text-2 Inv-loop μ-loop
+sub-text-2 c = search needs
+
+part-text-start-2 : tie.Need-part-text-start-2 Inv-loop μ-loop
+part-text-start-2 c = search needs
+
+part-text-end-2 : tie.Need-part-text-end-2 Inv-loop μ-loop
+part-text-end-2 c = search needs
+
+text-requires-3 : tie.Need-text-requires-3 Inv-loop μ-loop
+text-requires-3 c κs = search needs
+
+slice-aggregate-line : tie.Need-slice-aggregate-line Inv-loop μ-loop
+slice-aggregate-line c = search needs
+
+line-requires : tie.Need-line-requires Inv-loop μ-loop
+line-requires c κs = search needs
+
+returns : tie.Need-returns Inv-loop μ-loop
+returns c = search needs
+
+pub show-row-spec : {M : Type 1} → statement M
+show-row-spec =
+    tie.close
+    (tie.spec
+    Inv-loop
+    μ-loop
+    mul-at
+    add-at
+    loop-holds
+    mul-byte-of
+    add-byte-of
+    byte-of-requires
+    shown-requires
+    array-write-text
+    add-cell
+    loop-less
+    loop-again
+    slice-aggregate-text
+    text-requires
+    sub-text
+    part-text-start
+    part-text-end
+    text-requires-2
+    sub-text-2
+    part-text-start-2
+    part-text-end-2
+    text-requires-3
+    slice-aggregate-line
+    line-requires
+    returns)

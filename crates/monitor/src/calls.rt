@@ -1,0 +1,208 @@
+// The calls of the library, each with the memories that it is lent.
+use crate::desk;
+use crate::desk::Desk;
+use crate::dots;
+use crate::forms;
+use crate::say;
+use commands::Command;
+use lent::ByteRead;
+use mending::Stored;
+
+// A number of a line at the width that a call takes. Its form leaves it no more digits than that.
+pub fn byte(n: usize) -> u8 {
+    (n % 256) as u8
+}
+
+fn word(n: usize) -> u16 {
+    (n % 65536) as u16
+}
+
+fn address(n: usize) -> u32 {
+    (n % 4294967296) as u32
+}
+
+fn say_read(answer: ByteRead) {
+    if answer.refusal != lent::ACCEPTED {
+        say::refused(answer.refusal);
+        return;
+    }
+    say::byte(b"reads ", answer.byte);
+    say::text(b"\n");
+}
+
+fn say_stored(answer: Stored) {
+    if answer.refusal != lent::ACCEPTED {
+        say::refused(answer.refusal);
+        return;
+    }
+    say::long(b"stored, marks ", answer.marks);
+    for row in 0..32usize {
+        if marks::is_marked(answer.marks, row) {
+            say::number(b" ", row);
+        }
+    }
+    say::text(b"\n");
+}
+
+fn store(
+    desk: Desk,
+    shared: &mut [u8],
+    screen: &mut [u8],
+    attribute: &mut [u8],
+    picture: &mut [u8],
+    address: u32,
+    byte: u8,
+) {
+    let lent = desk.lent;
+    let a = desk::cut(lent.shared, shared);
+    let b = desk::cut(lent.screen, screen);
+    let c = desk::cut(lent.attribute, attribute);
+    let d = desk::cut(lent.picture, picture);
+    say_stored(mending::store_with_picture(
+        desk.machine,
+        &mut shared[0..a],
+        &mut screen[0..b],
+        &mut attribute[0..c],
+        &mut picture[0..d],
+        address,
+        byte,
+    ));
+}
+
+fn store_blind(
+    desk: Desk,
+    shared: &mut [u8],
+    screen: &mut [u8],
+    attribute: &mut [u8],
+    address: u32,
+    byte: u8,
+) {
+    let lent = desk.lent;
+    let a = desk::cut(lent.shared, shared);
+    let b = desk::cut(lent.screen, screen);
+    let c = desk::cut(lent.attribute, attribute);
+    say::done(
+        b"stored",
+        memories::store_8088(
+            &mut shared[0..a],
+            &mut screen[0..b],
+            &mut attribute[0..c],
+            address,
+            byte,
+        ),
+    );
+}
+
+fn read(desk: Desk, shared: &[u8], screen: &[u8], attribute: &[u8], address: u32) {
+    let lent = desk.lent;
+    let a = desk::cut(lent.shared, shared);
+    let b = desk::cut(lent.screen, screen);
+    let c = desk::cut(lent.attribute, attribute);
+    say_read(memories::read_8088(&shared[0..a], &screen[0..b], &attribute[0..c], address));
+}
+
+fn store_z80(desk: Desk, private: &mut [u8], shared: &mut [u8], address: u16, byte: u8) {
+    let lent = desk.lent;
+    let a = desk::cut(lent.private, private);
+    let b = desk::cut(lent.shared, shared);
+    say::done(
+        b"stored",
+        memories::store_z80(&mut private[0..a], &mut shared[0..b], address, byte),
+    );
+}
+
+fn read_z80(desk: Desk, private: &[u8], shared: &[u8], address: u16) {
+    let lent = desk.lent;
+    let a = desk::cut(lent.private, private);
+    let b = desk::cut(lent.shared, shared);
+    say_read(memories::read_z80(&private[0..a], &shared[0..b], address));
+}
+
+fn port(desk: Desk, shadow: &mut [u8], nvm: &mut [u8], port: u16, code: u8) -> Desk {
+    let lent = desk.lent;
+    let a = desk::cut(lent.shadow, shadow);
+    let b = desk::cut(lent.nvm, nvm);
+    let written = ports::write_port(desk.machine, &mut shadow[0..a], &mut nvm[0..b], port, code);
+    if written.refusal != lent::ACCEPTED {
+        say::refused(written.refusal);
+    } else {
+        say::machine(b"written: ", written.machine);
+    }
+    desk::with_machine(desk, written.machine)
+}
+
+fn tick(desk: Desk) -> Desk {
+    let ticked = desk.machine.vertical_tick();
+    say::machine(b"ticked: ", ticked);
+    desk::with_machine(desk, ticked)
+}
+
+fn write_shadow(desk: Desk, shadow: &mut [u8], place: usize, value: u8) {
+    let lent = desk.lent;
+    let a = desk::cut(lent.shadow, shadow);
+    say::done(
+        b"written",
+        shadow::write_shadow(&mut shadow[0..a], place, value),
+    );
+}
+
+fn read_shadow(desk: Desk, shadow: &[u8], place: usize) {
+    let lent = desk.lent;
+    let a = desk::cut(lent.shadow, shadow);
+    say_read(shadow::read_shadow(&shadow[0..a], place));
+}
+
+fn draw(desk: Desk, screen: &[u8], attribute: &[u8], picture: &mut [u8]) {
+    let lent = desk.lent;
+    let a = desk::cut(lent.screen, screen);
+    let b = desk::cut(lent.attribute, attribute);
+    let c = desk::cut(lent.picture, picture);
+    let answer = picture::draw(
+        desk.machine,
+        &screen[0..a],
+        &attribute[0..b],
+        &mut picture[0..c],
+    );
+    if answer.refusal != lent::ACCEPTED {
+        say::refused(answer.refusal);
+        return;
+    }
+    say::number(b"drawn, bytes read: ", answer.reads as usize);
+    say::text(b"\n");
+}
+
+pub fn obey(
+    desk: Desk,
+    command: Command,
+    shared: &mut [u8; desk::SHARED],
+    private: &mut [u8; desk::PRIVATE],
+    screen: &mut [u8; desk::SCREEN],
+    attribute: &mut [u8; desk::ATTRIBUTE],
+    glyphs: &mut [u8; desk::GLYPHS],
+    nvm: &mut [u8; desk::NVM],
+    shadow: &mut [u8; desk::SHADOW],
+    picture: &mut [u8; desk::PICTURE],
+    line: &mut [u8; desk::LINE],
+) -> Desk {
+    let form = command.form;
+    let place = command.first;
+    let code = byte(place);
+    let word = word(place);
+    let address = address(place);
+    let byte = byte(command.second);
+    match form {
+        forms::STORE => store(desk, shared, screen, attribute, picture, address, byte),
+        forms::BLIND => store_blind(desk, shared, screen, attribute, address, byte),
+        forms::READ => read(desk, shared, screen, attribute, address),
+        forms::Z80_STORE => store_z80(desk, private, shared, word, byte),
+        forms::Z80_READ => read_z80(desk, private, shared, word),
+        forms::PORT => return port(desk, shadow, nvm, word, byte),
+        forms::TICK => return tick(desk),
+        forms::SHADOW_WRITE => write_shadow(desk, shadow, place, byte),
+        forms::SHADOW_READ => read_shadow(desk, shadow, place),
+        forms::DRAW => draw(desk, screen, attribute, picture),
+        forms::LINE => dots::draw(desk, picture, glyphs, place, command.second, line),
+        _ => dots::part(desk, glyphs, code),
+    }
+    desk
+}

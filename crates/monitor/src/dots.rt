@@ -1,0 +1,60 @@
+// The scan line and the glyph part, shown.
+use crate::desk;
+use crate::desk::Desk;
+use crate::rows;
+use crate::say;
+
+// A dot's shade as a character: a point for an unlit one.
+fn shown(dot: u8) -> u8 {
+    match dot {
+        0 => b'.',
+        1 => b'1',
+        2 => b'2',
+        3 => b'3',
+        _ => b'?',
+    }
+}
+
+pub fn draw(desk: Desk, picture: &[u8], table: &[u8], row: usize, scan: usize, line: &mut [u8]) {
+    let lent = desk.lent;
+    let a = desk::cut(lent.picture, picture);
+    let b = desk::cut(lent.glyphs, table);
+    let c = desk::cut(lent.line, line);
+    let refusal = scan_line::draw(
+        desk.machine,
+        &picture[0..a],
+        &table[0..b],
+        row,
+        scan,
+        &mut line[0..c],
+    );
+    if refusal != lent::ACCEPTED {
+        say::refused(refusal);
+        return;
+    }
+    show(line, scan_line::dots_of_line(desk.machine));
+}
+
+fn show(line: &[u8], dots: usize) {
+    let mut text = [b'?'; 1188];
+    for dot in 0..1188usize {
+        text[dot] = shown(rows::byte_of(line, dot));
+    }
+    if dots < 1188 {
+        say::line(&text[0..800]);
+    } else {
+        say::line(&text[0..1188]);
+    }
+}
+
+pub fn part(desk: Desk, table: &[u8], code: u8) {
+    let lent = desk.lent;
+    let a = desk::cut(lent.glyphs, table);
+    let part = glyphs::part(&table[0..a], code);
+    let refusal = glyphs::refusal(part);
+    if refusal != lent::ACCEPTED {
+        say::refused(refusal);
+        return;
+    }
+    say::bytes(b"part", part);
+}

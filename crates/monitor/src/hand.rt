@@ -1,0 +1,175 @@
+// What is done to the memories by hand, between the calls.
+use crate::calls;
+use crate::desk;
+use crate::desk::Desk;
+use crate::forms;
+use crate::input;
+use crate::rows;
+use crate::say;
+use crate::strewn;
+use commands::Command;
+
+fn fill(memory: &mut [u8], byte: u8) {
+    for i in 0..memory.len() {
+        memory[i] = byte;
+    }
+    say::line(b"filled");
+}
+
+fn no_such_place() {
+    say::line(b"expected a place, or places, that the memory has");
+}
+
+fn put(memory: &mut [u8], place: usize, byte: u8) {
+    if place >= memory.len() {
+        no_such_place();
+        return;
+    }
+    memory[place] = byte;
+    say::line(b"put");
+}
+
+fn show(memory: &[u8], from: usize, count: usize) {
+    if from > memory.len() {
+        no_such_place();
+        return;
+    }
+    if count > memory.len() - from {
+        no_such_place();
+        return;
+    }
+    say::bytes(b"bytes", &memory[from..from + count]);
+}
+
+fn to_memory(desk: Desk, command: Command, memory: &mut [u8]) -> Desk {
+    let form = command.form;
+    match form {
+        forms::LEND => return lend(desk, command, memory.len()),
+        forms::FILL => fill(memory, calls::byte(command.second)),
+        forms::PUT => put(memory, command.second, calls::byte(command.third)),
+        forms::BYTES => show(memory, command.second, command.third),
+        _ => strewn::strew(memory, command.second, command.third, command.fourth),
+    }
+    desk
+}
+
+fn lend(desk: Desk, command: Command, has: usize) -> Desk {
+    if command.second > has {
+        say::line(b"expected a length up to one more than the memory's own");
+        return desk;
+    }
+    say::line(b"lent");
+    desk::with_lent(desk, command.first, command.second)
+}
+
+// The lines that name a memory.
+fn named(
+    desk: Desk,
+    command: Command,
+    shared: &mut [u8; desk::SHARED],
+    private: &mut [u8; desk::PRIVATE],
+    screen: &mut [u8; desk::SCREEN],
+    attribute: &mut [u8; desk::ATTRIBUTE],
+    glyphs: &mut [u8; desk::GLYPHS],
+    nvm: &mut [u8; desk::NVM],
+    shadow: &mut [u8; desk::SHADOW],
+    picture: &mut [u8; desk::PICTURE],
+    line: &mut [u8; desk::LINE],
+) -> Desk {
+    let name = command.first;
+    match name {
+        0 => to_memory(desk, command, shared),
+        1 => to_memory(desk, command, private),
+        2 => to_memory(desk, command, screen),
+        3 => to_memory(desk, command, attribute),
+        4 => to_memory(desk, command, glyphs),
+        5 => to_memory(desk, command, nvm),
+        6 => to_memory(desk, command, shadow),
+        7 => to_memory(desk, command, picture),
+        _ => to_memory(desk, command, line),
+    }
+}
+
+fn sums(
+    shared: &[u8; desk::SHARED],
+    private: &[u8; desk::PRIVATE],
+    screen: &[u8; desk::SCREEN],
+    attribute: &[u8; desk::ATTRIBUTE],
+    glyphs: &[u8; desk::GLYPHS],
+    nvm: &[u8; desk::NVM],
+    shadow: &[u8; desk::SHADOW],
+    picture: &[u8; desk::PICTURE],
+    line: &[u8; desk::LINE],
+) {
+    strewn::sum(b"sums: shared ", shared);
+    strewn::sum(b" private ", private);
+    strewn::sum(b" screen ", screen);
+    strewn::sum(b" attribute ", attribute);
+    strewn::sum(b" glyphs ", glyphs);
+    strewn::sum(b" nvm ", nvm);
+    strewn::sum(b" shadow ", shadow);
+    strewn::sum(b" picture ", picture);
+    strewn::sum(b" line ", line);
+    say::text(b"\n");
+}
+
+pub fn obey(
+    desk: Desk,
+    command: Command,
+    text: &[u8],
+    shared: &mut [u8; desk::SHARED],
+    private: &mut [u8; desk::PRIVATE],
+    screen: &mut [u8; desk::SCREEN],
+    attribute: &mut [u8; desk::ATTRIBUTE],
+    glyphs: &mut [u8; desk::GLYPHS],
+    nvm: &mut [u8; desk::NVM],
+    shadow: &mut [u8; desk::SHADOW],
+    picture: &mut [u8; desk::PICTURE],
+    line: &mut [u8; desk::LINE],
+) -> Desk {
+    let form = command.form;
+    if form >= forms::FORMS {
+        if !input::is_blank(text) {
+            forms::expected(text);
+        }
+        return desk;
+    }
+    match form {
+        forms::POWER => {
+            let up = desk::power_up();
+            say::machine(b"power-up: ", up.machine);
+            return up;
+        }
+        forms::MACHINE => say::machine(b"machine: ", desk.machine),
+        forms::ROWS => rows::list(picture),
+        forms::TEXT => rows::show(picture, desk.machine.columns()),
+        forms::SUMS => sums(
+            shared,
+            private,
+            screen,
+            attribute,
+            glyphs,
+            nvm,
+            shadow,
+            picture,
+            line,
+        ),
+        forms::HELP => forms::help(),
+        _ => {
+            return named(
+                desk,
+                command,
+                shared,
+                private,
+                screen,
+                attribute,
+                glyphs,
+                nvm,
+                shadow,
+                picture,
+                line,
+            );
+        }
+    }
+    desk
+}

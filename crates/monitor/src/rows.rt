@@ -1,0 +1,68 @@
+// What the kept picture says, row by row.
+use crate::say;
+
+// A byte of a memory. Those of this program have all the places that it asks for.
+pub fn byte_of(picture: &[u8], place: usize) -> u8 {
+    if place < picture.len() {
+        return picture[place];
+    }
+    0
+}
+
+// A line for each row that is not dark: row, start, kind, count.
+fn list_row(picture: &[u8], row: usize) {
+    let at = row % chain::ROWS * records::RECORD_BYTES;
+    let count = byte_of(picture, at + records::COUNT_AT);
+    if count == records::DARK {
+        return;
+    }
+    say::number(b"row ", row);
+    say::byte(b" start ", byte_of(picture, at));
+    say::byte(b"", byte_of(picture, at + 1));
+    say::number(b" kind ", byte_of(picture, at + records::KIND_AT) as usize);
+    if count == records::TORN {
+        say::line(b" torn");
+        return;
+    }
+    say::number(b" cells ", count as usize);
+    say::text(b"\n");
+}
+
+pub fn list(picture: &[u8]) {
+    for row in 0..chain::ROWS {
+        list_row(picture, row);
+    }
+}
+
+// A character as it can be shown.
+fn shown(character: u8) -> u8 {
+    if character < 0x20 {
+        return b'.';
+    }
+    if character > 0x7E {
+        return b'.';
+    }
+    character
+}
+
+fn show_row(picture: &[u8], row: usize, columns: usize) {
+    let at = row % chain::ROWS * records::RECORD_BYTES + records::HEAD_BYTES;
+    let mut text = [b' '; 132];
+    for cell in 0..132usize {
+        text[cell] = shown(byte_of(picture, at + 2 * cell));
+    }
+    say::text(b"|");
+    if columns < 132 {
+        say::text(&text[0..80]);
+    } else {
+        say::text(&text[0..132]);
+    }
+    say::line(b"|");
+}
+
+// The characters of every row, as many as a row has columns.
+pub fn show(picture: &[u8], columns: usize) {
+    for row in 0..chain::ROWS {
+        show_row(picture, row, columns);
+    }
+}
