@@ -1,5 +1,5 @@
 //! Makes calls of the linked library and compares each with the model. See --help.
-use host::load::{load, Script, Tally, Wrong, FUNCTIONS, WRONGS};
+use host::load::{load, Tally, Wrong, FUNCTIONS, WRONGS};
 use std::process::exit;
 use std::time::Instant;
 
@@ -73,7 +73,6 @@ fn main() {
     match load(asked.calls, seed, Wrong(asked.wrong)) {
         Ok(tally) => print_tally(&tally, begun.elapsed().as_secs_f64()),
         Err(script) => {
-            let script: Script = script;
             println!("{script}");
             exit(1);
         }

@@ -11,49 +11,83 @@ pub const EDGES: [u32; 20] = [
 const SCREEN: u32 = 0xEE000;
 const ATTRIBUTE: u32 = 0xEF000;
 
-/// A place that the picture says a row reads, or the one after its link, and the memory that it is in.
-fn of_a_row(chance: &mut Chance, model: &Model) -> u32 {
-    let row = chance.below(ROWS);
+/// A row that the picture shows, as its start, its capacity, and its cells; torn if it has no FF.
+struct Shown {
+    start: usize,
+    capacity: usize,
+    cells: usize,
+    torn: bool,
+}
+
+fn shown(model: &Model, row: usize) -> Shown {
     let record = &model.picture[row * RECORD..][..RECORD];
-    let start = usize::from(u16::from_be_bytes([record[0], record[1]]));
     let columns = usize::from(model.machine.columns);
     let capacity = match record[2] & 3 {
         3 => columns,
         _ => columns / 2,
     };
-    let cells = match record[3] {
-        254 => return SCREEN + chance.below(PLACES) as u32,
-        255 => capacity,
-        count => count.into(),
-    };
+    let torn = record[3] == 255;
+    Shown {
+        start: usize::from(u16::from_be_bytes([record[0], record[1]])),
+        capacity,
+        cells: if torn { capacity } else { record[3].into() },
+        torn,
+    }
+}
+
+/// How many rows there are ahead of the first dark one.
+fn lit(model: &Model) -> usize {
+    let counts = (0..ROWS).map(|row| model.picture[row * RECORD + 3]);
+    counts.take_while(|count| *count != 254).count()
+}
+
+/// A place that a row reads, or the one after its link, and the memory that it is in.
+fn of_a_row(chance: &mut Chance, row: &Shown) -> u32 {
+    let cells = row.cells;
     let (memory, offset) = match chance.below(20) {
-        0 | 1 => (SCREEN, cells),
-        2..=4 => (SCREEN, cells + 1),
-        5..=7 => (SCREEN, cells + 2),
-        8..=10 => (ATTRIBUTE, cells + 1),
-        11 => (SCREEN, cells + 3),
-        12 => (ATTRIBUTE, cells + chance.of(&[0, 2, 3])),
-        13..=15 => (ATTRIBUTE, chance.below(cells + 1)),
-        16 => (SCREEN, capacity),
+        0 => (SCREEN, cells),
+        1 | 2 => (SCREEN, cells + 1),
+        3 | 4 => (SCREEN, cells + 2),
+        5..=7 => (ATTRIBUTE, cells + 1),
+        8 => (SCREEN, cells + 3),
+        9 => (ATTRIBUTE, cells + chance.of(&[0, 2, 3])),
+        10..=13 => (ATTRIBUTE, chance.below(cells + 1)),
+        14 => (SCREEN, row.capacity),
         _ => (SCREEN, chance.below(cells + 1)),
     };
-    memory + ((start + offset) % PLACES) as u32
+    memory + ((row.start + offset) % PLACES) as u32
 }
 
 pub fn address(chance: &mut Chance, model: &Model) -> u32 {
+    let lit = lit(model);
     match chance.below(20) {
         0 => chance.of(&EDGES),
         1 => chance.below(1 << 32) as u32,
         2 => chance.below(0x10000) as u32,
-        3 => SCREEN + chance.below(2 * PLACES) as u32,
         4 => 0xED000 + chance.below(4 * PLACES) as u32,
-        _ => of_a_row(chance, model),
+        5.. if lit > 0 => {
+            let row = chance.below(lit).max(chance.below(lit));
+            of_a_row(chance, &shown(model, row))
+        }
+        _ => SCREEN + chance.below(2 * PLACES) as u32,
     }
 }
 
-/// An address and the byte to store there. A torn row is most often given its FF again, for all rows after it are
-/// dark.
+/// An address and the byte to store there. A torn row is often given an FF again, for all rows after it are dark.
 pub fn store(chance: &mut Chance, model: &Model) -> (u32, u8) {
+    let last = lit(model).checked_sub(1).map(|row| shown(model, row));
+    if let Some(Shown {
+        start,
+        capacity,
+        torn: true,
+        ..
+    }) = last
+    {
+        if chance.below(3) == 0 {
+            let place = (start + chance.below(capacity + 2)) % PLACES;
+            return (SCREEN + place as u32, 0xFF);
+        }
+    }
     let address = address(chance, model);
     let place = (address & 0xFFF) as usize;
     let old = match address >> 12 {
@@ -61,14 +95,12 @@ pub fn store(chance: &mut Chance, model: &Model) -> (u32, u8) {
         0xEF => model.view.attribute[place],
         _ => chance.byte(),
     };
-    let torn = model.picture.chunks(RECORD).any(|record| record[3] == 255);
     let byte = match chance.below(10) {
-        0 | 1 => 0xFF,
-        2 | 3 => old,
-        4 => old ^ chance.byte() & 0xF0,
-        5 => old.wrapping_add(1),
-        6 => chance.below(16) as u8,
-        7 if torn => 0xFF,
+        0 => 0xFF,
+        1 | 2 => old,
+        3 => old ^ chance.byte() & 0xF0,
+        4 => old.wrapping_add(1),
+        5 => chance.below(16) as u8,
         _ => chance.byte(),
     };
     (address, byte)

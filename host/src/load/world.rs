@@ -44,17 +44,19 @@ pub struct World {
     pub kind: Kind,
 }
 
-/// The rows laid so far, and the one to lay.
+/// Memories that rows are laid in, one after another. What a row has been laid on is not changed for a later one.
 struct Layer<'a> {
     chance: &'a mut Chance,
     screen: &'a mut [u8],
     attribute: &'a mut [u8],
+    laid: Vec<bool>,
     starts: Vec<usize>,
+    free: usize,
 }
 
 impl Layer<'_> {
     fn cells(&mut self, kind: Kind, capacity: usize) -> usize {
-        let deep = self.starts.len() > 3;
+        let deep = self.starts.len() > 8;
         match (kind, self.chance.below(8)) {
             (Kind::Torn, 0) if deep => capacity + 1,
             (Kind::Torn, _) => capacity,
@@ -66,36 +68,41 @@ impl Layer<'_> {
         }
     }
 
+    /// Where the row after one goes: now and then to what the kind is named for, else on.
     fn next(&mut self, kind: Kind, start: usize, cells: usize) -> usize {
-        let next = match (kind, self.chance.below(4)) {
+        let next = match (kind, self.chance.below(12)) {
             (Kind::Loops, 0) => start,
             (Kind::Loops, 1) => self.chance.of(&self.starts),
-            (Kind::Overlaps, 0..=2) => start + self.chance.below(cells + 4),
+            (Kind::Overlaps, 0) => start + self.chance.below(cells + 1),
+            (Kind::Overlaps, 1 | 2) => start + cells + 1 + self.chance.below(2),
             (Kind::Wraps, 0 | 1) => PLACES - 1 - self.chance.below(4),
-            (Kind::Wraps, 2) => PLACES - 1 - self.chance.below(140),
-            _ => start + cells + 3,
+            (Kind::Wraps, 2 | 3) => PLACES - 1 - self.chance.below(140),
+            _ => self.free.max(start + cells + 3),
         };
         next % PLACES
     }
 
-    /// Lays a row, and gives where the next one starts and its kind.
-    fn row(&mut self, kind: Kind, columns: usize, at: (usize, u8)) -> (usize, u8) {
+    fn lay(&mut self, place: usize, byte: u8, beside: u8) {
+        let place = place % PLACES;
+        if !self.laid[place] {
+            (self.screen[place], self.attribute[place]) = (byte, beside);
+        }
+        self.laid[place] = true;
+    }
+
+    /// Lays a row, and gives where the next one starts and its kind. There is none if the row runs into one that
+    /// is there already, for the chain goes on from that.
+    fn row(&mut self, kind: Kind, columns: usize, at: (usize, u8)) -> Option<(usize, u8)> {
         let (start, row_kind) = at;
-        self.starts.push(start);
-        let capacity = if row_kind & 3 == 3 {
-            columns
-        } else {
-            columns / 2
+        let capacity = match row_kind & 3 {
+            3 => columns,
+            _ => columns / 2,
         };
+        self.starts.push(start);
         let mut cells = self.cells(kind, capacity);
         let to_end = PLACES - start;
-        if kind == Kind::Wraps && to_end <= capacity && self.chance.below(2) == 0 {
-            cells = to_end - self.chance.below(3).min(to_end); // the link is split over the end
-        }
-        for place in start..start + cells {
-            if self.screen[place % PLACES] == 0xFF {
-                self.screen[place % PLACES] = self.chance.below(255) as u8;
-            }
+        if kind == Kind::Wraps && to_end <= capacity {
+            cells = to_end.saturating_sub(self.chance.below(4)); // most often the link is split over the end
         }
         let end = start + cells;
         let next = self.next(kind, start, cells);
@@ -104,12 +111,28 @@ impl Layer<'_> {
             Kind::Torn => self.chance.of(&[3, 7, 2]),
             _ => self.chance.below(8) as u8,
         };
+        for place in start..end {
+            let (cell, beside) = (self.chance.below(255) as u8, self.chance.byte());
+            self.lay(place, cell, beside);
+        }
         let any = self.chance.byte();
-        self.screen[end % PLACES] = 0xFF;
-        self.screen[(end + 1) % PLACES] = next as u8;
-        self.screen[(end + 2) % PLACES] = (next >> 8) as u8 | (any & 0xF0);
-        self.attribute[(end + 1) % PLACES] = next_kind | (any << 3);
-        (next, next_kind)
+        self.lay(end, 0xFF, any);
+        self.lay(end + 1, next as u8, next_kind | (any << 3));
+        self.lay(end + 2, (next >> 8) as u8 | (any & 0xF0), any);
+        if end + 3 < PLACES {
+            self.free = self.free.max(end + 3);
+        }
+        self.after(start, cells, capacity)
+    }
+
+    /// What the link of the row at a start says, if the row ends where it was to end.
+    fn after(&self, start: usize, cells: usize, capacity: usize) -> Option<(usize, u8)> {
+        let byte = |place: usize| self.screen[place % PLACES];
+        let cells_read = (0..=capacity).find(|cell| byte(start + cell) == 0xFF)?;
+        let end = start + cells;
+        let next = u16::from_le_bytes([byte(end + 1), byte(end + 2) & 0x0F]);
+        let kind = self.attribute[(end + 1) % PLACES] & 7;
+        (cells_read == cells).then_some((next.into(), kind))
     }
 }
 
@@ -132,21 +155,27 @@ fn memories(chance: &mut Chance, kind: Kind, columns: usize) -> (Vec<u8>, Vec<u8
         _ => {}
     }
     let mut screen = strewn(chance, PLACES);
-    if kind == Kind::ManyFF {
-        for byte in &mut screen {
-            if chance.below(3) == 0 {
-                *byte = 0xFF;
-            }
+    let every = match kind {
+        Kind::ManyFF => 3,
+        _ => chance.of(&[10, 25, 40, 80, 256]),
+    };
+    for byte in &mut screen {
+        if chance.below(every) == 0 {
+            *byte = 0xFF;
         }
+    }
+    if kind == Kind::ManyFF {
         return (screen, attribute);
     }
     let mut layer = Layer {
         chance,
         screen: &mut screen,
         attribute: &mut attribute,
+        laid: vec![false; PLACES],
         starts: Vec::new(),
+        free: 0,
     };
-    (0..26).fold((0, 3), |at, _| layer.row(kind, columns, at));
+    (0..26).try_fold((0, 3), |at, _| layer.row(kind, columns, at));
     (screen, attribute)
 }
 
