@@ -94,7 +94,8 @@ static rainbow_machine write_any_port(rainbow_machine machine, uint8_t **b)
 
 static uint8_t draw(rainbow_machine machine, uint8_t **b, int into)
 {
-    rainbow_drawn drawn = rainbow_draw(machine, b[SCREEN], listed[SCREEN], b[ATTRIBUTE], listed[ATTRIBUTE], b[into], listed[into]);
+    rainbow_drawn drawn = rainbow_draw(machine, b[SCREEN], listed[SCREEN], b[ATTRIBUTE], listed[ATTRIBUTE], b[into],
+                                       listed[into]);
     if (drawn.reads > 3240)
         fail("too many bytes read");
     return drawn.refusal;
@@ -104,20 +105,24 @@ static uint8_t draw(rainbow_machine machine, uint8_t **b, int into)
 static void call(rainbow_machine machine, uint8_t **b)
 {
     size_t place = below(300);
+    uint16_t z80 = (uint16_t)(below(2) == 0 ? below(0x1000) : below(0x10000));
+    uint8_t byte = below(5) == 0 ? 0xFF : any();
     switch (below(8)) {
     case 0:
-        rainbow_read_8088(b[SHARED], listed[SHARED], b[SCREEN], listed[SCREEN], b[ATTRIBUTE], listed[ATTRIBUTE], address());
+        rainbow_read_8088(b[SHARED], listed[SHARED], b[SCREEN], listed[SCREEN], b[ATTRIBUTE], listed[ATTRIBUTE],
+                          address());
         break;
-    case 1: rainbow_read_z80(b[PRIVATE], listed[PRIVATE], b[SHARED], listed[SHARED], (uint16_t)below(0x10000)); break;
-    case 2: rainbow_store_z80(b[PRIVATE], listed[PRIVATE], b[SHARED], listed[SHARED], (uint16_t)below(0x1000), any()); break;
+    case 1: rainbow_read_z80(b[PRIVATE], listed[PRIVATE], b[SHARED], listed[SHARED], z80); break;
+    case 2: rainbow_store_z80(b[PRIVATE], listed[PRIVATE], b[SHARED], listed[SHARED], z80, any()); break;
     case 3: rainbow_read_shadow(b[SHADOW], listed[SHADOW], place); break;
     case 4: rainbow_write_shadow(b[SHADOW], listed[SHADOW], place, any()); break;
     case 5:
-        rainbow_scan_line(machine, b[PICTURE], listed[PICTURE], b[GLYPHS], listed[GLYPHS], below(26), below(12), b[LINE], listed[LINE]);
+        rainbow_scan_line(machine, b[PICTURE], listed[PICTURE], b[GLYPHS], listed[GLYPHS], below(26), below(12),
+                          b[LINE], listed[LINE]);
         break;
     default:
         rainbow_store_with_picture(machine, b[SHARED], listed[SHARED], b[SCREEN], listed[SCREEN], b[ATTRIBUTE],
-                                   listed[ATTRIBUTE], b[PICTURE], listed[PICTURE], address(), below(5) == 0 ? 0xFF : any());
+                                   listed[ATTRIBUTE], b[PICTURE], listed[PICTURE], address(), byte);
     }
 }
 
@@ -125,11 +130,13 @@ static void call(rainbow_machine machine, uint8_t **b)
 static void refused(rainbow_machine machine, uint8_t **b)
 {
     size_t length = listed[PICTURE] - 1 + 2 * below(2);
-    bool all = rainbow_draw(machine, fence, 1, fence, 2, fence, length).refusal == 1 &&
+    rainbow_stored stored =
+        rainbow_store_with_picture(machine, fence, 7, fence, 7, fence, 7, fence, length, address(), any());
+    bool all = stored.refusal == 1 && rainbow_draw(machine, fence, 1, fence, 2, fence, length).refusal == 1 &&
                rainbow_draw(machine, b[SCREEN], listed[SCREEN], fence, 0, b[PICTURE], length).refusal == 1 &&
                rainbow_scan_line(machine, fence, length, fence, 0, 0, 1, fence, 3) == 1 &&
-               rainbow_glyph_part(fence, length, any()).refusal == 1 && rainbow_write_shadow(fence, 255, 0, any()) == 1 &&
-               rainbow_store_with_picture(machine, fence, 7, fence, 7, fence, 7, fence, length, address(), any()).refusal == 1;
+               rainbow_glyph_part(fence, length, any()).refusal == 1 &&
+               rainbow_write_shadow(fence, 255, 0, any()) == 1;
     if (!all)
         fail("a wrong length is not refused by 1");
 }

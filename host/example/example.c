@@ -9,10 +9,10 @@ static uint8_t picture[RAINBOW_PICTURE_BYTES], line[RAINBOW_LINE_BYTES];
 /* The 8088's store at a place of the screen memory, and beside it in the attribute memory. */
 static void store(uint32_t place, uint8_t byte, uint8_t beside)
 {
-    rainbow_store_8088(shared, sizeof shared, screen, sizeof screen, attribute, sizeof attribute,
-                       0xEE000 + place, byte);
-    rainbow_store_8088(shared, sizeof shared, screen, sizeof screen, attribute, sizeof attribute,
-                       0xEF000 + place, beside);
+    uint32_t address = 0xEE000 + place;
+    rainbow_store_8088(shared, sizeof shared, screen, sizeof screen, attribute, sizeof attribute, address, byte);
+    address = 0xEF000 + place;
+    rainbow_store_8088(shared, sizeof shared, screen, sizeof screen, attribute, sizeof attribute, address, beside);
 }
 
 /* A row of plain cells, FF, and the link to the next row, which is of kind 3: normal. */
@@ -45,17 +45,17 @@ int main(void)
     lay(0x000, "HERD BOOK", 0x100);
     lay(0x100, "BERTA   9.6", 0x200);
     lay(0x200, "", 0x200); /* the other rows are this one again and again */
-    rainbow_drawn drawn = rainbow_draw(machine, screen, sizeof screen, attribute, sizeof attribute,
-                                       picture, sizeof picture);
+    rainbow_drawn drawn =
+        rainbow_draw(machine, screen, sizeof screen, attribute, sizeof attribute, picture, sizeof picture);
     printf("%d bytes read\n", drawn.reads);
     for (size_t row = 0; row < 3; row++)
         print_row(row);
 
-    rainbow_stored stored = rainbow_store_with_picture(machine, shared, sizeof shared, screen, sizeof screen, attribute,
-                                                       sizeof attribute, picture, sizeof picture, 0xEE104, 'H');
+    uint32_t marks = rainbow_store_with_picture(machine, shared, sizeof shared, screen, sizeof screen, attribute,
+                                                sizeof attribute, picture, sizeof picture, 0xEE104, 'H').marks;
     puts("marked:");
     for (size_t row = 0; row < RAINBOW_ROWS; row++)
-        if (rainbow_is_marked(stored.marks, row))
+        if (rainbow_is_marked(marks, row))
             print_row(row);
 
     size_t h = rainbow_glyph_part(glyphs, sizeof glyphs, 'H').at;
