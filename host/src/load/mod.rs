@@ -20,6 +20,7 @@ pub use wrong::{Wrong, WRONGS};
 use crate::hard::Chance;
 use call::{Call, Step};
 use sides::Sides;
+use std::thread::spawn;
 use world::World;
 
 /// How many calls there were of each function, and how many were answered by each number of refusal.
@@ -32,6 +33,13 @@ pub struct Tally {
 impl Tally {
     pub fn total(&self) -> u64 {
         self.calls.iter().sum()
+    }
+
+    fn add(&mut self, other: &Self) {
+        let calls = self.calls.iter_mut().zip(other.calls);
+        calls.for_each(|(sum, calls)| *sum += calls);
+        let refusals = self.refusals.iter_mut().zip(other.refusals);
+        refusals.for_each(|(sum, refused)| *sum += refused);
     }
 }
 
@@ -76,20 +84,42 @@ impl<'a> Run<'a> {
     }
 }
 
+/// As many run at once, each on buffers of its own, which the header allows.
+const THREADS: u64 = 2;
+
 /// Makes the calls of the sweep, and then calls by chance until there have been so many.
 pub fn load(calls: u64, seed: u64, wrong: Wrong) -> Result<Tally, Script> {
-    let mut chance = Chance(seed);
+    let mut tally = sweep_all(&mut Chance(seed), wrong)?;
+    let each = calls.saturating_sub(tally.total()) / THREADS;
+    let threads: Vec<_> = (1..=THREADS)
+        .map(|thread| {
+            let seed = seed.rotate_left(16 * thread as u32);
+            spawn(move || by_chance(each, &mut Chance(seed), wrong))
+        })
+        .collect();
+    for thread in threads {
+        tally.add(&thread.join().expect("a thread that ends")?);
+    }
+    Ok(tally)
+}
+
+fn sweep_all(chance: &mut Chance, wrong: Wrong) -> Result<Tally, Script> {
     let mut tally = Tally::default();
     for steps in sweep::pieces() {
-        let mut run = Run::new(&mut chance, wrong, &mut tally);
+        let mut run = Run::new(chance, wrong, &mut tally);
         steps.into_iter().try_for_each(|step| run.step(step))?;
         run.end()?;
     }
+    Ok(tally)
+}
+
+fn by_chance(calls: u64, chance: &mut Chance, wrong: Wrong) -> Result<Tally, Script> {
+    let mut tally = Tally::default();
     while tally.total() < calls {
-        let mut run = Run::new(&mut chance, wrong, &mut tally);
+        let mut run = Run::new(chance, wrong, &mut tally);
         let true_run = chance.below(2) == 0;
         for _ in 0..100 + chance.below(300) {
-            let step = choose::step(&mut chance, &run.sides, true_run);
+            let step = choose::step(chance, &run.sides, true_run);
             run.step(step)?;
         }
         run.step(Call::DrawAfresh.into())?;
