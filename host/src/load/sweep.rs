@@ -1,10 +1,11 @@
 //! Every port, code, edge, row, scan and place once, before calls are chosen by chance.
 use super::aim::EDGES;
 use super::call::{Call, Step, WRONG_LENGTHS};
+use crate::machine::Machine;
 
 /// The calls of the sweep in pieces, each for a world of its own.
 pub fn pieces() -> Vec<Vec<Step>> {
-    let pieces = [ports(), addresses(), places(), lines(), marks()];
+    let pieces = [ports(), edges(), addresses(), places(), lines(), marks()];
     let mut all: Vec<Vec<Step>> = pieces
         .iter()
         .map(|calls| calls.iter().copied().map(Step::from).collect())
@@ -19,6 +20,24 @@ fn ports() -> Vec<Call> {
         (0..=0x10F).flat_map(|port| [0x00, 0x05, 0x10].map(|code| Call::WritePort { port, code }));
     let listed = [0x04, 0x0A, 0x0C, 0x10C].into_iter().flat_map(of_port);
     listed.chain(each).collect()
+}
+
+/// Every code to port 0A after bytes about its edges, with a shadow that differs from the NVM.
+fn edges() -> Vec<Call> {
+    let mut calls = Vec::new();
+    for held in [0x00, 0x3F, 0x40, 0x7F, 0x80, 0xBF, 0xC0, 0xFF] {
+        for code in 0..=255 {
+            let machine = Machine {
+                held,
+                ..Machine::power_up()
+            };
+            let (place, value) = (code.into(), held ^ code);
+            calls.push(Call::SetMachine(machine));
+            calls.push(Call::WriteShadow { place, value });
+            calls.push(Call::WritePort { port: 0x0A, code });
+        }
+    }
+    calls
 }
 
 fn addresses() -> Vec<Call> {

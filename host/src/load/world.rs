@@ -56,8 +56,9 @@ struct Layer<'a> {
 
 impl Layer<'_> {
     fn cells(&mut self, kind: Kind, capacity: usize) -> usize {
-        let deep = self.starts.len() > 8;
+        let (first, deep) = (self.starts.len() == 1, self.starts.len() > 8);
         match (kind, self.chance.below(8)) {
+            (Kind::Wraps, 0..=3) if first => self.chance.below(3), // a link over the end may then be beside it
             (Kind::Torn, 0) if deep => capacity + 1,
             (Kind::Torn, _) => capacity,
             (_, 0) => 0,
