@@ -7,25 +7,31 @@ use crate::rainbow;
 
 const GUARD: usize = 64;
 
-/// The byte that stands at a place outside of a buffer.
-pub fn guard(place: usize) -> u8 {
-    (place * 37 + 11) as u8
+/// The byte that stands at a place outside of a buffer. No two buffers have the same, so that a copy that runs over
+/// the end of two buffers is seen.
+pub fn guard(buffer: Buffer, place: usize) -> u8 {
+    (place * 37 + buffer as usize * 21 + 11) as u8
 }
 
 /// A buffer between guard bytes; after it there are enough to lend it doubled.
 #[derive(Clone)]
 pub struct Guarded {
+    buffer: Buffer,
     bytes: Vec<u8>,
     listed: usize,
 }
 
 impl Guarded {
-    fn new(content: &[u8]) -> Self {
+    fn new(buffer: Buffer, content: &[u8]) -> Self {
         let listed = content.len();
-        let ahead = (0..GUARD).map(guard);
-        let after = (0..listed + GUARD).map(guard);
+        let ahead = (0..GUARD).map(|place| guard(buffer, place));
+        let after = (0..listed + GUARD).map(|place| guard(buffer, place));
         let bytes = ahead.chain(content.iter().copied()).chain(after).collect();
-        Self { bytes, listed }
+        Self {
+            buffer,
+            bytes,
+            listed,
+        }
     }
 
     pub fn content(&self) -> &[u8] {
@@ -45,12 +51,12 @@ impl Guarded {
     fn broken(&self, far: bool) -> Option<String> {
         let after = if far { self.listed + GUARD } else { GUARD };
         let ahead = &self.bytes[..GUARD];
-        if let Some(place) = (0..GUARD).find(|place| ahead[*place] != guard(*place)) {
+        if let Some(place) = (0..GUARD).find(|place| ahead[*place] != guard(self.buffer, *place)) {
             let before = GUARD - place;
             return Some(format!("{before:X} bytes before its first byte"));
         }
         let end = &self.bytes[GUARD + self.listed..];
-        let place = (0..after).find(|place| end[*place] != guard(*place))?;
+        let place = (0..after).find(|place| end[*place] != guard(self.buffer, *place))?;
         Some(format!("{place:X} bytes after its end"))
     }
 
@@ -70,7 +76,7 @@ impl Library {
     /// The model's memories and machine again.
     pub fn new(model: &Model) -> Self {
         Self {
-            buffers: BUFFERS.map(|buffer| Guarded::new(model.bytes(buffer))),
+            buffers: BUFFERS.map(|buffer| Guarded::new(buffer, model.bytes(buffer))),
             machine: mirrored(&model.machine),
         }
     }

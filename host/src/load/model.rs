@@ -83,7 +83,7 @@ impl Model {
             let length = lent.of(buffer).length(listed).unwrap_or(0);
             let bytes = self.bytes_mut(buffer);
             bytes.truncate(length);
-            bytes.extend((listed..length).map(|place| guard(place - listed)));
+            bytes.extend((listed..length).map(|place| guard(buffer, place - listed)));
         }
     }
 
