@@ -26,9 +26,10 @@ pub fn address(scan: usize) -> usize {
 
 /// The glyph scan that a row of a kind shows at a screen scan.
 fn glyph_scan(kind: u8, scan: usize) -> usize {
+    let half = scan / 2 + scan % 2;
     match kind & 3 {
-        0 => scan.div_ceil(2) + 5,
-        1 => scan.div_ceil(2),
+        0 => half + 5,
+        1 => half,
         _ => scan,
     }
 }

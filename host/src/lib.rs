@@ -4,9 +4,13 @@
 pub mod chain;
 pub mod dots;
 pub mod hard;
+#[cfg(feature = "linked")]
+pub mod load;
 pub mod machine;
 pub mod memories;
 pub mod mending;
+#[cfg(feature = "linked")]
+pub mod rainbow;
 pub mod sample;
 pub mod trial;
 pub mod tube_sample;

@@ -49,15 +49,16 @@ pub fn glyph_table(text: &str) -> Read<Vec<u8>> {
     let mut table = vec![0; GLYPHS];
     let mut lines = lines(text);
     while let Some((at, line)) = lines.next() {
-        let Some(code) = heading(line) else {
-            return expected(file, at, "a code in two hex digits and its character");
+        let code = match heading(line) {
+            Some(code) => code,
+            None => return expected(file, at, "a code in two hex digits and its character"),
         };
         for scan in 1..=SCANS {
             let (at, line) = lines.next().unwrap_or((at, ""));
-            let Some(byte) = scan_byte(line) else {
-                return expected(file, at, &format!("eight dots, # or ., of scan {scan}"));
-            };
-            table[usize::from(code) * 16 + address(scan)] = byte;
+            match scan_byte(line) {
+                Some(byte) => table[usize::from(code) * 16 + address(scan)] = byte,
+                None => return expected(file, at, &format!("eight dots, # or ., of scan {scan}")),
+            }
         }
     }
     Ok(table)
@@ -127,13 +128,14 @@ fn rows(text: &str) -> Read<Vec<Row>> {
     let mut rows: Vec<Row> = Vec::new();
     for (at, line) in lines(text) {
         if line.starts_with(' ') {
-            let Some(row) = rows.last_mut() else {
-                return expected(file, at, "a row's kind before its runs");
+            let row = match rows.last_mut() {
+                Some(row) => row,
+                None => return expected(file, at, "a row's kind before its runs"),
             };
-            let Some(cells) = run(line) else {
-                return expected(file, at, "attributes and then a text between bars");
-            };
-            row.cells.extend(cells);
+            match run(line) {
+                Some(cells) => row.cells.extend(cells),
+                None => return expected(file, at, "attributes and then a text between bars"),
+            }
             if row.cells.len() > row.capacity() {
                 return expected(file, at, &format!("at most {} cells", row.capacity()));
             }

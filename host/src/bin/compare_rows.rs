@@ -25,9 +25,12 @@ fn plain(screen: usize) -> Option<Vec<u8>> {
 fn main() -> std::io::Result<()> {
     let words: Vec<String> = std::env::args().skip(1).collect();
     let screens = words.get(1).map_or(Some(5000), |n| n.parse().ok());
-    let (Some(lister), Some(screens)) = (words.first(), screens) else {
-        eprintln!("usage: compare_rows LISTER [SCREENS]");
-        exit(2);
+    let (lister, screens) = match (words.first(), screens) {
+        (Some(lister), Some(screens)) => (lister, screens),
+        _ => {
+            eprintln!("usage: compare_rows LISTER [SCREENS]");
+            exit(2);
+        }
     };
     let mut chance = Chance(0x9E3779B97F4A7C15);
     let (mut torn, mut whole, mut refused) = (0, 0, 0);

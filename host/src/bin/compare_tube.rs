@@ -38,9 +38,12 @@ fn spoil(chance: &mut Chance, input: &mut Vec<u8>, words: &mut Vec<&str>) {
 fn main() -> std::io::Result<()> {
     let given: Vec<String> = std::env::args().skip(1).collect();
     let screens = given.get(1).map_or(Some(500), |n| n.parse().ok());
-    let (Some(program), Some(screens)) = (given.first(), screens) else {
-        eprintln!("usage: compare_tube TUBE [SCREENS]");
-        exit(2);
+    let (program, screens) = match (given.first(), screens) {
+        (Some(program), Some(screens)) => (program, screens),
+        _ => {
+            eprintln!("usage: compare_tube TUBE [SCREENS]");
+            exit(2);
+        }
     };
     let mut chance = Chance(0x9E3779B97F4A7C15);
     let (mut drawn, mut refused) = (0, 0);

@@ -339,7 +339,7 @@ impl Run {
         let port = ports[(self.play.next() & 7) as usize];
         let n = self.play.next();
         let code = match port {
-            0x04 => n % 5 << 4,
+            0x04 => (n % 5) << 4,
             0x0A => n & 255,
             _ => n % 14,
         } as u8;

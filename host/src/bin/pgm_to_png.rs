@@ -164,7 +164,7 @@ fn png(picture: &Picture) -> Vec<u8> {
     let grey_of_two_bits = [2, 0, 0, 0, 0];
     [
         b"\x89PNG\r\n\x1a\n".to_vec(),
-        chunk(b"IHDR", &[size.as_flattened(), &grey_of_two_bits].concat()),
+        chunk(b"IHDR", &[&size.concat()[..], &grey_of_two_bits].concat()),
         chunk(b"IDAT", &zlib),
         chunk(b"IEND", &[]),
     ]

@@ -1,0 +1,166 @@
+/* 100,000 calls on buffers of exactly the listed lengths, each hard against a page that may not be touched, so that
+ * any access outside of a buffer ends the program. The archive is not built for the sanitizers; they watch this file,
+ * and memory that the C library moves for the archive. */
+#define _DEFAULT_SOURCE
+#include "rainbow.h"
+#include <stdio.h>
+#include <stdlib.h>
+#include <string.h>
+#include <sys/mman.h>
+#include <unistd.h>
+
+enum { SHARED, PRIVATE, SCREEN, ATTRIBUTE, GLYPHS, NVM, SHADOW, PICTURE, FRESH, LINE, BUFFERS };
+static const size_t listed[BUFFERS] = {
+    RAINBOW_SHARED_BYTES, RAINBOW_PRIVATE_BYTES, RAINBOW_SCREEN_BYTES,  RAINBOW_ATTRIBUTE_BYTES, RAINBOW_GLYPH_BYTES,
+    RAINBOW_NVM_BYTES,    RAINBOW_SHADOW_BYTES,  RAINBOW_PICTURE_BYTES, RAINBOW_PICTURE_BYTES,   RAINBOW_LINE_BYTES};
+enum { AT_END, AT_START, ON_HEAP, WAYS };
+
+static uint8_t *buffers[WAYS][BUFFERS];
+static uint8_t *fence; /* a page that may not be touched */
+static size_t page;
+static unsigned long calls;
+static uint64_t seed = 0x9E3779B97F4A7C15u;
+
+static uint32_t below(uint32_t n)
+{
+    seed ^= seed << 13;
+    seed ^= seed >> 7;
+    seed ^= seed << 17;
+    return (uint32_t)(seed >> 16) % n;
+}
+
+static uint8_t any(void)
+{
+    return (uint8_t)below(256);
+}
+
+static void fail(const char *what)
+{
+    printf("%s, after %lu calls\n", what, calls);
+    exit(1);
+}
+
+/* Memory between two fences: the buffer ends at the second, or starts at the first. */
+static uint8_t *fenced(size_t length, int way)
+{
+    size_t pages = (length + page - 1) / page * page;
+    uint8_t *all = (uint8_t *)mmap(NULL, pages + 2 * page, PROT_NONE, MAP_PRIVATE | MAP_ANONYMOUS, -1, 0);
+    if (all == MAP_FAILED || mprotect(all + page, pages, PROT_READ | PROT_WRITE) != 0)
+        fail("no memory");
+    fence = all;
+    return way == AT_END ? all + page + pages - length : all + page;
+}
+
+static void make_buffers(void)
+{
+    page = (size_t)sysconf(_SC_PAGESIZE);
+    for (int way = 0; way < WAYS; way++)
+        for (int buffer = 0; buffer < BUFFERS; buffer++) {
+            uint8_t *bytes = way == ON_HEAP ? (uint8_t *)malloc(listed[buffer]) : fenced(listed[buffer], way);
+            if (bytes == NULL)
+                fail("no memory");
+            buffers[way][buffer] = bytes;
+        }
+}
+
+/* Any bytes, and screens of which one byte in `every` is FF. */
+static void fill(uint8_t **b)
+{
+    uint32_t every = 1 + below(90);
+    for (int buffer = 0; buffer < BUFFERS; buffer++)
+        for (size_t place = 0; place < listed[buffer]; place++)
+            b[buffer][place] = any();
+    for (size_t place = 0; place < listed[SCREEN]; place++)
+        b[SCREEN][place] = below(every) == 0 ? 0xFF : (uint8_t)below(255);
+}
+
+static uint32_t address(void)
+{
+    static const uint32_t edges[] = {0,       0xFFFF,  0x10000, 0xEDFFF,  0xEE000,  0xEEFFF,
+                                     0xEF000, 0xEFFFF, 0xF0000, 0x100000, 0x1EE000, 0xFFFFFFFF};
+    switch (below(8)) {
+    case 0: return edges[below(12)];
+    case 1: return below(0x10000);
+    default: return 0xEE000 + below(0x2000);
+    }
+}
+
+static rainbow_machine write_any_port(rainbow_machine machine, uint8_t **b)
+{
+    static const uint16_t ports[] = {0x04, 0x0A, 0x0C, 0x10C, 0x10A};
+    uint8_t code = below(2) == 0 ? (uint8_t)(below(4) << 4) : any();
+    return rainbow_write_port(machine, b[SHADOW], listed[SHADOW], b[NVM], listed[NVM], ports[below(5)], code).machine;
+}
+
+static uint8_t draw(rainbow_machine machine, uint8_t **b, int into)
+{
+    rainbow_drawn drawn = rainbow_draw(machine, b[SCREEN], listed[SCREEN], b[ATTRIBUTE], listed[ATTRIBUTE], b[into],
+                                       listed[into]);
+    if (drawn.reads > 3240)
+        fail("too many bytes read");
+    return drawn.refusal;
+}
+
+/* One call that keeps the picture true. */
+static void call(rainbow_machine machine, uint8_t **b)
+{
+    size_t place = below(300);
+    uint16_t z80 = (uint16_t)(below(2) == 0 ? below(0x1000) : below(0x10000));
+    uint8_t byte = below(5) == 0 ? 0xFF : any();
+    switch (below(8)) {
+    case 0:
+        rainbow_read_8088(b[SHARED], listed[SHARED], b[SCREEN], listed[SCREEN], b[ATTRIBUTE], listed[ATTRIBUTE],
+                          address());
+        break;
+    case 1: rainbow_read_z80(b[PRIVATE], listed[PRIVATE], b[SHARED], listed[SHARED], z80); break;
+    case 2: rainbow_store_z80(b[PRIVATE], listed[PRIVATE], b[SHARED], listed[SHARED], z80, any()); break;
+    case 3: rainbow_read_shadow(b[SHADOW], listed[SHADOW], place); break;
+    case 4: rainbow_write_shadow(b[SHADOW], listed[SHADOW], place, any()); break;
+    case 5:
+        rainbow_scan_line(machine, b[PICTURE], listed[PICTURE], b[GLYPHS], listed[GLYPHS], below(26), below(12),
+                          b[LINE], listed[LINE]);
+        break;
+    default:
+        rainbow_store_with_picture(machine, b[SHARED], listed[SHARED], b[SCREEN], listed[SCREEN], b[ATTRIBUTE],
+                                   listed[ATTRIBUTE], b[PICTURE], listed[PICTURE], address(), byte);
+    }
+}
+
+/* A buffer that is refused by its length is not touched, nor are the others of the call. */
+static void refused(rainbow_machine machine, uint8_t **b)
+{
+    size_t length = listed[PICTURE] - 1 + 2 * below(2);
+    rainbow_stored stored =
+        rainbow_store_with_picture(machine, fence, 7, fence, 7, fence, 7, fence, length, address(), any());
+    bool all = stored.refusal == 1 && rainbow_draw(machine, fence, 1, fence, 2, fence, length).refusal == 1 &&
+               rainbow_draw(machine, b[SCREEN], listed[SCREEN], fence, 0, b[PICTURE], length).refusal == 1 &&
+               rainbow_scan_line(machine, fence, length, fence, 0, 0, 1, fence, 3) == 1 &&
+               rainbow_glyph_part(fence, length, any()).refusal == 1 &&
+               rainbow_write_shadow(fence, 255, 0, any()) == 1;
+    if (!all)
+        fail("a wrong length is not refused by 1");
+}
+
+int main(void)
+{
+    make_buffers();
+    for (int round = 0; calls < 100000; round++) {
+        uint8_t **b = buffers[round % WAYS];
+        rainbow_machine machine = rainbow_power_up();
+        fill(b);
+        for (int turn = 0; turn < 10; turn++) {
+            machine = write_any_port(machine, b);
+            draw(machine, b, PICTURE);
+            for (int i = 0; i < 50; i++)
+                call(machine, b);
+            refused(machine, b);
+            if (draw(machine, b, FRESH) != 0 || memcmp(b[PICTURE], b[FRESH], listed[PICTURE]) != 0)
+                fail("the kept picture differs from a fresh one");
+            calls += 59;
+        }
+    }
+    for (int buffer = 0; buffer < BUFFERS; buffer++)
+        free(buffers[ON_HEAP][buffer]);
+    printf("%lu calls touched nothing outside of their buffers\n", calls);
+    return 0;
+}

@@ -1,0 +1,68 @@
+/* Lays two rows of text on the Rainbow's screen, draws them, changes a letter, and prints a scan of the dots. */
+#include "rainbow.h"
+#include <stdio.h>
+
+static uint8_t shared[RAINBOW_SHARED_BYTES], screen[RAINBOW_SCREEN_BYTES], attribute[RAINBOW_ATTRIBUTE_BYTES];
+static uint8_t nvm[RAINBOW_NVM_BYTES], shadow[RAINBOW_SHADOW_BYTES], glyphs[RAINBOW_GLYPH_BYTES];
+static uint8_t picture[RAINBOW_PICTURE_BYTES], line[RAINBOW_LINE_BYTES];
+
+/* The 8088's store at a place of the screen memory, and beside it in the attribute memory. */
+static void store(uint32_t place, uint8_t byte, uint8_t beside)
+{
+    uint32_t address = 0xEE000 + place;
+    rainbow_store_8088(shared, sizeof shared, screen, sizeof screen, attribute, sizeof attribute, address, byte);
+    address = 0xEF000 + place;
+    rainbow_store_8088(shared, sizeof shared, screen, sizeof screen, attribute, sizeof attribute, address, beside);
+}
+
+/* A row of plain cells, FF, and the link to the next row, which is of kind 3: normal. */
+static void lay(uint32_t place, const char *text, uint32_t next)
+{
+    for (; *text != 0; text++)
+        store(place++, (uint8_t)*text, 0x0E);
+    store(place, 0xFF, 0x0E);
+    store(place + 1, (uint8_t)(next & 0xFF), 3);
+    store(place + 2, (uint8_t)(next >> 8), 0x0E);
+}
+
+static void print_row(size_t row)
+{
+    const uint8_t *record = picture + row * RAINBOW_RECORD_BYTES;
+    int start = record[0] << 8 | record[1], count = record[RAINBOW_COUNT_AT];
+    printf("row %d starts at %04X, has %d cells: |", (int)row, (unsigned)start, count);
+    for (int cell = 0; cell < count && count < RAINBOW_DARK; cell++)
+        putchar(record[RAINBOW_PAIRS_AT + 2 * cell]);
+    puts("|");
+}
+
+int main(void)
+{
+    rainbow_machine machine = rainbow_power_up();
+    machine = rainbow_write_port(machine, shadow, sizeof shadow, nvm, sizeof nvm, 0x0A, 0x02).machine;
+    printf("version %u, %d columns, %s\n", (unsigned)rainbow_version(), (int)rainbow_columns(machine),
+           rainbow_blanked(machine) ? "blanked" : "shown");
+
+    lay(0x000, "HERD BOOK", 0x100);
+    lay(0x100, "BERTA   9.6", 0x200);
+    lay(0x200, "", 0x200); /* the other rows are this one again and again */
+    rainbow_drawn drawn =
+        rainbow_draw(machine, screen, sizeof screen, attribute, sizeof attribute, picture, sizeof picture);
+    printf("%d bytes read\n", drawn.reads);
+    for (size_t row = 0; row < 3; row++)
+        print_row(row);
+
+    uint32_t marks = rainbow_store_with_picture(machine, shared, sizeof shared, screen, sizeof screen, attribute,
+                                                sizeof attribute, picture, sizeof picture, 0xEE104, 'H').marks;
+    puts("marked:");
+    for (size_t row = 0; row < RAINBOW_ROWS; row++)
+        if (rainbow_is_marked(marks, row))
+            print_row(row);
+
+    size_t h = rainbow_glyph_part(glyphs, sizeof glyphs, 'H').at;
+    glyphs[h + 3] = 0x7C; /* the bar of the H, at scan 5 */
+    rainbow_scan_line(machine, picture, sizeof picture, glyphs, sizeof glyphs, 1, 5, line, sizeof line);
+    for (size_t dot = 0; dot < 60; dot++)
+        putchar(line[dot] != 0 ? '#' : '.');
+    putchar('\n');
+    return 0;
+}

@@ -1,0 +1,45 @@
+/* Every function that is lent buffers refuses NULL with length 0 by 1, with all other numbers 0. */
+#include "rainbow.h"
+#include <stdio.h>
+#include <string.h>
+
+static int wrong = 0;
+
+static void expect(bool holds, const char *function)
+{
+    if (!holds) {
+        printf("%s: NULL is not refused as it should be\n", function);
+        wrong = 1;
+    }
+}
+
+static bool same(rainbow_machine a, rainbow_machine b)
+{
+    return memcmp(&a, &b, sizeof a) == 0; /* nine bytes, with none between them */
+}
+
+int main(void)
+{
+    rainbow_machine machine = rainbow_vertical_tick(rainbow_power_up());
+    rainbow_written written = rainbow_write_port(machine, NULL, 0, NULL, 0, 0x0C, 0x08);
+    expect(written.refusal == 1 && same(written.machine, machine), "write_port");
+    rainbow_byte_read read = rainbow_read_8088(NULL, 0, NULL, 0, NULL, 0, 0xEE000);
+    expect(read.refusal == 1 && read.byte == 0, "read_8088");
+    expect(rainbow_store_8088(NULL, 0, NULL, 0, NULL, 0, 0xEE000, 1) == 1, "store_8088");
+    read = rainbow_read_z80(NULL, 0, NULL, 0, 0x0800);
+    expect(read.refusal == 1 && read.byte == 0, "read_z80");
+    expect(rainbow_store_z80(NULL, 0, NULL, 0, 0x0800, 1) == 1, "store_z80");
+    read = rainbow_read_shadow(NULL, 0, 0);
+    expect(read.refusal == 1 && read.byte == 0, "read_shadow");
+    expect(rainbow_write_shadow(NULL, 0, 0, 1) == 1, "write_shadow");
+    rainbow_drawn drawn = rainbow_draw(machine, NULL, 0, NULL, 0, NULL, 0);
+    expect(drawn.refusal == 1 && drawn.reads == 0, "draw");
+    rainbow_stored stored = rainbow_store_with_picture(machine, NULL, 0, NULL, 0, NULL, 0, NULL, 0, 0xEE000, 1);
+    expect(stored.refusal == 1 && stored.marks == 0, "store_with_picture");
+    rainbow_part_place part = rainbow_glyph_part(NULL, 0, 0x41);
+    expect(part.refusal == 1 && part.at == 0 && part.length == 0, "glyph_part");
+    expect(rainbow_scan_line(machine, NULL, 0, NULL, 0, 0, 1, NULL, 0) == 1, "scan_line");
+    if (wrong == 0)
+        puts("NULL is refused by 1 everywhere");
+    return wrong;
+}

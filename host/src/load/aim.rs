@@ -1,0 +1,115 @@
+//! Addresses and bytes that matter: the bytes that rows read, those beside them, and the edges of the ranges.
+use super::model::Model;
+use crate::chain::{PLACES, RECORD, ROWS};
+use crate::hard::Chance;
+
+pub const EDGES: [u32; 20] = [
+    0x0, 0x1, 0x7FF, 0x800, 0xFFFE, 0xFFFF, 0x10000, 0x1FFFF, 0xEDFFF, 0xEE000, 0xEE001, 0xEEFFF,
+    0xEF000, 0xEFFFF, 0xF0000, 0xFFFFF, 0x100000, 0x1EE000, 0xFFFEE000, 0xFFFFFFFF,
+];
+
+const SCREEN: u32 = 0xEE000;
+const ATTRIBUTE: u32 = 0xEF000;
+
+/// A row that the picture shows, as its start, its capacity, and its cells; torn if it has no FF.
+struct Shown {
+    start: usize,
+    capacity: usize,
+    cells: usize,
+    torn: bool,
+}
+
+fn shown(model: &Model, row: usize) -> Shown {
+    let record = &model.picture[row * RECORD..][..RECORD];
+    let columns = usize::from(model.machine.columns);
+    let capacity = match record[2] & 3 {
+        3 => columns,
+        _ => columns / 2,
+    };
+    let torn = record[3] == 255;
+    Shown {
+        start: usize::from(u16::from_be_bytes([record[0], record[1]])),
+        capacity,
+        cells: if torn { capacity } else { record[3].into() },
+        torn,
+    }
+}
+
+/// How many rows there are ahead of the first dark one.
+fn lit(model: &Model) -> usize {
+    let counts = (0..ROWS).map(|row| model.picture[row * RECORD + 3]);
+    counts.take_while(|count| *count != 254).count()
+}
+
+/// A place that a row reads, or the one after its link, and the memory that it is in.
+fn of_a_row(chance: &mut Chance, row: &Shown) -> u32 {
+    let cells = row.cells;
+    let (memory, offset) = match chance.below(20) {
+        0 => (SCREEN, cells),
+        1 | 2 => (SCREEN, cells + 1),
+        3 | 4 => (SCREEN, cells + 2),
+        5..=7 => (ATTRIBUTE, cells + 1),
+        8 => (SCREEN, cells + 3),
+        9 => (ATTRIBUTE, cells + chance.of(&[0, 2, 3])),
+        10..=13 => (ATTRIBUTE, chance.below(cells + 1)),
+        14 => (SCREEN, row.capacity),
+        _ => (SCREEN, chance.below(cells + 1)),
+    };
+    memory + ((row.start + offset) % PLACES) as u32
+}
+
+pub fn address(chance: &mut Chance, model: &Model) -> u32 {
+    let lit = lit(model);
+    match chance.below(20) {
+        0 => chance.of(&EDGES),
+        1 => chance.below(1 << 32) as u32,
+        2 => chance.below(0x10000) as u32,
+        4 => 0xED000 + chance.below(4 * PLACES) as u32,
+        5.. if lit > 0 => {
+            let row = chance.below(lit).max(chance.below(lit));
+            of_a_row(chance, &shown(model, row))
+        }
+        _ => SCREEN + chance.below(2 * PLACES) as u32,
+    }
+}
+
+/// An address and the byte to store there. A torn row is often given an FF again, for all rows after it are dark.
+pub fn store(chance: &mut Chance, model: &Model) -> (u32, u8) {
+    let last = lit(model).checked_sub(1).map(|row| shown(model, row));
+    if let Some(Shown {
+        start,
+        capacity,
+        torn: true,
+        ..
+    }) = last
+    {
+        if chance.below(3) == 0 {
+            let place = (start + chance.below(capacity + 2)) % PLACES;
+            return (SCREEN + place as u32, 0xFF);
+        }
+    }
+    let address = address(chance, model);
+    let place = (address & 0xFFF) as usize;
+    let old = match address >> 12 {
+        0xEE => model.view.screen[place],
+        0xEF => model.view.attribute[place],
+        _ => chance.byte(),
+    };
+    let byte = match chance.below(10) {
+        0 => 0xFF,
+        1 | 2 => old,
+        3 => old ^ chance.byte() & 0xF0,
+        4 => old.wrapping_add(1),
+        5 => chance.below(16) as u8,
+        _ => chance.byte(),
+    };
+    (address, byte)
+}
+
+pub fn z80(chance: &mut Chance) -> u16 {
+    match chance.below(3) {
+        0 => chance.of(&[0, 1, 0x7FE, 0x7FF, 0x800, 0x801, 0xFFFE, 0xFFFF]),
+        1 => chance.below(0x1000) as u16,
+        _ => chance.below(0x10000) as u16,
+    }
+}

@@ -1,0 +1,221 @@
+//! The calls of include/rainbow.h, the buffers that they are lent, and lengths that differ from the list.
+use crate::chain::PICTURE;
+use crate::dots::{GLYPHS, LINE};
+use crate::machine::Machine;
+use crate::memories::{ATTRIBUTE, NVM, PRIVATE, SCREEN, SHADOW, SHARED};
+
+/// A lent buffer. `Spare` is a second picture, to draw afresh beside the kept one.
+#[derive(Clone, Copy, Debug, PartialEq, Eq)]
+pub enum Buffer {
+    Shared,
+    Private,
+    Screen,
+    Attribute,
+    Table,
+    Nvm,
+    Shadow,
+    Picture,
+    Line,
+    Spare,
+}
+
+pub const BUFFERS: [Buffer; 10] = [
+    Buffer::Shared,
+    Buffer::Private,
+    Buffer::Screen,
+    Buffer::Attribute,
+    Buffer::Table,
+    Buffer::Nvm,
+    Buffer::Shadow,
+    Buffer::Picture,
+    Buffer::Line,
+    Buffer::Spare,
+];
+
+impl Buffer {
+    pub fn listed(self) -> usize {
+        match self {
+            Self::Shared => SHARED,
+            Self::Private => PRIVATE,
+            Self::Screen => SCREEN,
+            Self::Attribute => ATTRIBUTE,
+            Self::Table => GLYPHS,
+            Self::Nvm => NVM,
+            Self::Shadow => SHADOW,
+            Self::Picture | Self::Spare => PICTURE,
+            Self::Line => LINE,
+        }
+    }
+
+    pub fn name(self) -> String {
+        format!("{self:?}").to_lowercase()
+    }
+}
+
+/// How much of a buffer is lent.
+#[derive(Clone, Copy, Debug, PartialEq, Eq)]
+pub enum Lent {
+    Whole,
+    Null,
+    Empty,
+    Less,
+    More,
+    Doubled,
+}
+
+pub const WRONG_LENGTHS: [Lent; 5] = [
+    Lent::Null,
+    Lent::Empty,
+    Lent::Less,
+    Lent::More,
+    Lent::Doubled,
+];
+
+impl Lent {
+    /// The length lent; none for NULL, whose length is 0.
+    pub fn length(self, listed: usize) -> Option<usize> {
+        match self {
+            Self::Whole => Some(listed),
+            Self::Null => None,
+            Self::Empty => Some(0),
+            Self::Less => Some(listed - 1),
+            Self::More => Some(listed + 1),
+            Self::Doubled => Some(2 * listed),
+        }
+    }
+}
+
+/// What is lent of each buffer.
+#[derive(Clone, Copy, Debug, PartialEq, Eq)]
+pub struct Lengths([Lent; BUFFERS.len()]);
+
+impl Lengths {
+    pub const WHOLE: Self = Self([Lent::Whole; BUFFERS.len()]);
+
+    pub fn of(&self, buffer: Buffer) -> Lent {
+        self.0[buffer as usize]
+    }
+
+    pub fn set(&mut self, buffer: Buffer, lent: Lent) {
+        self.0[buffer as usize] = lent;
+    }
+}
+
+/// A call with its numbers. The last four are no calls but changes that the caller makes by hand.
+#[derive(Clone, Copy, Debug, PartialEq, Eq)]
+pub enum Call {
+    Version,
+    PowerUp,
+    VerticalTick,
+    Columns,
+    Blanked,
+    Graphics,
+    DotsOfLine,
+    WritePort { port: u16, code: u8 },
+    Read8088 { address: u32 },
+    Store8088 { address: u32, byte: u8 },
+    ReadZ80 { address: u16 },
+    StoreZ80 { address: u16, byte: u8 },
+    ReadShadow { place: usize },
+    WriteShadow { place: usize, value: u8 },
+    Draw,
+    DrawAfresh,
+    StoreWithPicture { address: u32, byte: u8 },
+    IsMarked { marks: u32, row: usize },
+    GlyphPart { code: u8 },
+    ScanLine { row: usize, scan: usize },
+    SetMachine(Machine),
+    AlterPicture { place: usize, byte: u8 },
+    StrewPicture { seed: u64 },
+    OtherPicture { seed: u64 },
+}
+
+pub const FUNCTIONS: [&str; 19] = [
+    "version",
+    "power_up",
+    "vertical_tick",
+    "columns",
+    "blanked",
+    "graphics",
+    "dots_of_line",
+    "write_port",
+    "read_8088",
+    "store_8088",
+    "read_z80",
+    "store_z80",
+    "read_shadow",
+    "write_shadow",
+    "draw",
+    "store_with_picture",
+    "is_marked",
+    "glyph_part",
+    "scan_line",
+];
+
+impl Call {
+    /// The function called, by its number in the list; none for a change by hand.
+    pub fn function(&self) -> Option<usize> {
+        let name = match self {
+            Self::Version => "version",
+            Self::PowerUp => "power_up",
+            Self::VerticalTick => "vertical_tick",
+            Self::Columns => "columns",
+            Self::Blanked => "blanked",
+            Self::Graphics => "graphics",
+            Self::DotsOfLine => "dots_of_line",
+            Self::WritePort { .. } => "write_port",
+            Self::Read8088 { .. } => "read_8088",
+            Self::Store8088 { .. } => "store_8088",
+            Self::ReadZ80 { .. } => "read_z80",
+            Self::StoreZ80 { .. } => "store_z80",
+            Self::ReadShadow { .. } => "read_shadow",
+            Self::WriteShadow { .. } => "write_shadow",
+            Self::Draw | Self::DrawAfresh => "draw",
+            Self::StoreWithPicture { .. } => "store_with_picture",
+            Self::IsMarked { .. } => "is_marked",
+            Self::GlyphPart { .. } => "glyph_part",
+            Self::ScanLine { .. } => "scan_line",
+            _ => return None,
+        };
+        FUNCTIONS.iter().position(|known| *known == name)
+    }
+
+    /// The buffers that the call is lent.
+    pub fn buffers(&self) -> &'static [Buffer] {
+        use Buffer::*;
+        match self {
+            Self::WritePort { .. } => &[Shadow, Nvm],
+            Self::Read8088 { .. } | Self::Store8088 { .. } => &[Shared, Screen, Attribute],
+            Self::ReadZ80 { .. } | Self::StoreZ80 { .. } => &[Private, Shared],
+            Self::ReadShadow { .. } | Self::WriteShadow { .. } => &[Shadow],
+            Self::Draw => &[Screen, Attribute, Picture],
+            Self::DrawAfresh => &[Screen, Attribute, Spare],
+            Self::StoreWithPicture { .. } => &[Shared, Screen, Attribute, Picture],
+            Self::GlyphPart { .. } => &[Table],
+            Self::ScanLine { .. } => &[Picture, Table, Line],
+            _ => &[],
+        }
+    }
+}
+
+/// A call and what it is lent.
+#[derive(Clone, Copy, Debug, PartialEq, Eq)]
+pub struct Step {
+    pub call: Call,
+    pub lent: Lengths,
+}
+
+impl From<Call> for Step {
+    fn from(call: Call) -> Self {
+        Self {
+            call,
+            lent: Lengths::WHOLE,
+        }
+    }
+}
+
+impl Step {
+    pub fn whole(&self) -> bool {
+        self.lent == Lengths::WHOLE
+    }
+}

@@ -1,0 +1,191 @@
+//! Chooses the next call, most often one that is hard to answer.
+use super::aim;
+use super::call::{Call, Lent, Step, WRONG_LENGTHS};
+use super::model::Model;
+use super::sides::Sides;
+use super::world;
+use crate::chain::PICTURE;
+use crate::hard::Chance;
+
+/// The kinds of calls, with how often they are chosen.
+#[derive(Clone, Copy)]
+enum Choice {
+    Plain(Call),
+    Port,
+    Read8088,
+    Store8088,
+    ReadZ80,
+    StoreZ80,
+    ReadShadow,
+    WriteShadow,
+    Stored,
+    Marked,
+    Part,
+    Line,
+}
+
+const CHOICES: [(usize, Choice); 20] = [
+    (260, Choice::Stored),
+    (120, Choice::Port),
+    (60, Choice::Read8088),
+    (60, Choice::Line),
+    (50, Choice::ReadZ80),
+    (50, Choice::StoreZ80),
+    (50, Choice::WriteShadow),
+    (40, Choice::ReadShadow),
+    (40, Choice::Marked),
+    (40, Choice::Part),
+    (60, Choice::Store8088),
+    (30, Choice::Plain(Call::Draw)),
+    (30, Choice::Plain(Call::DrawAfresh)),
+    (28, Choice::Plain(Call::Version)),
+    (28, Choice::Plain(Call::PowerUp)),
+    (28, Choice::Plain(Call::VerticalTick)),
+    (28, Choice::Plain(Call::Columns)),
+    (28, Choice::Plain(Call::Blanked)),
+    (28, Choice::Plain(Call::Graphics)),
+    (28, Choice::Plain(Call::DotsOfLine)),
+];
+
+fn choice(chance: &mut Chance) -> Choice {
+    let total = CHOICES.iter().map(|(often, _)| often).sum();
+    let mut left = chance.below(total);
+    for (often, choice) in CHOICES {
+        match left.checked_sub(often) {
+            Some(rest) => left = rest,
+            None => return choice,
+        }
+    }
+    unreachable!("less than the total")
+}
+
+/// A write to a port: most often a port and a code of its list.
+fn port(chance: &mut Chance) -> Call {
+    let port = match chance.below(20) {
+        0 => chance.below(0x10000) as u16,
+        1 => chance.of(&[0x00, 0x03, 0x05, 0x0B, 0x0D, 0x104, 0x10A, 0x10B, 0x20C]),
+        _ => chance.of(&[0x04, 0x0A, 0x0A, 0x0C, 0x10C]),
+    };
+    let code = match (port, chance.below(8)) {
+        (_, 0) => chance.byte(),
+        (0x04, _) => chance.of(&[0x00, 0x10, 0x20, 0x30]),
+        (0x0A, 1..=6) => chance.byte() & !0b100 | 0b010,
+        (0x0A, _) => chance.byte(),
+        _ => chance.below(13) as u8,
+    };
+    Call::WritePort { port, code }
+}
+
+const HUGE: [usize; 4] = [usize::MAX, usize::MAX / 2, 1 << 32, 1 << 63];
+
+/// A number that is most often under `n`, sometimes beside it, seldom far from it.
+fn about(chance: &mut Chance, n: usize) -> usize {
+    match chance.below(16) {
+        0 => n - chance.below(2),
+        1 => chance.of(&HUGE),
+        2 => n + chance.below(10),
+        _ => chance.below(n),
+    }
+}
+
+/// A change by hand: of the machine, or one that makes the picture untrue.
+fn by_hand(chance: &mut Chance) -> Call {
+    let seed = chance.below(1 << 40) as u64 | 1;
+    match chance.below(8) {
+        0 => Call::StrewPicture { seed },
+        1 => Call::OtherPicture { seed },
+        2 | 3 => Call::SetMachine(world::machine(chance)),
+        _ => Call::AlterPicture {
+            place: chance.below(PICTURE),
+            byte: chance.byte(),
+        },
+    }
+}
+
+/// Now and then a call is lent one or several buffers of other lengths.
+fn lent(chance: &mut Chance, call: Call) -> Step {
+    let mut step = Step::from(call);
+    let buffers = call.buffers();
+    if buffers.is_empty() || chance.below(25) > 0 {
+        return step;
+    }
+    let one = chance.of(buffers);
+    step.lent.set(one, chance.of(&WRONG_LENGTHS));
+    if chance.below(2) == 0 {
+        for buffer in buffers {
+            let either = [Lent::Whole, chance.of(&WRONG_LENGTHS)];
+            step.lent.set(*buffer, chance.of(&either));
+        }
+    }
+    step
+}
+
+/// A call of a kind, with its numbers.
+fn call(chance: &mut Chance, model: &Model, choice: Choice) -> Call {
+    match choice {
+        Choice::Plain(call) => call,
+        Choice::Port => port(chance),
+        Choice::Read8088 => Call::Read8088 {
+            address: aim::address(chance, model),
+        },
+        Choice::Store8088 => {
+            let (address, byte) = aim::store(chance, model);
+            Call::Store8088 { address, byte }
+        }
+        Choice::Stored => {
+            let (address, byte) = aim::store(chance, model);
+            Call::StoreWithPicture { address, byte }
+        }
+        Choice::ReadZ80 => Call::ReadZ80 {
+            address: aim::z80(chance),
+        },
+        Choice::StoreZ80 => Call::StoreZ80 {
+            address: aim::z80(chance),
+            byte: chance.byte(),
+        },
+        _ => numbered(chance, choice),
+    }
+}
+
+/// A call by row, scan, place or code.
+fn numbered(chance: &mut Chance, choice: Choice) -> Call {
+    match choice {
+        Choice::ReadShadow => Call::ReadShadow {
+            place: about(chance, 256),
+        },
+        Choice::WriteShadow => Call::WriteShadow {
+            place: about(chance, 256),
+            value: chance.byte(),
+        },
+        Choice::Marked => Call::IsMarked {
+            marks: chance.below(1 << 32) as u32,
+            row: about(chance, 32),
+        },
+        Choice::Line => Call::ScanLine {
+            row: about(chance, 24),
+            scan: match chance.below(4) {
+                0 => 9,
+                _ => about(chance, 11),
+            },
+        },
+        _ => Call::GlyphPart {
+            code: chance.byte(),
+        },
+    }
+}
+
+/// The next step. In a true run the picture is never left behind: it is drawn first, and again as soon as the
+/// columns have changed.
+pub fn step(chance: &mut Chance, sides: &Sides, true_run: bool) -> Step {
+    if true_run && !sides.kept {
+        return Call::Draw.into();
+    }
+    if !true_run && chance.below(60) == 0 {
+        return by_hand(chance).into();
+    }
+    let call = match choice(chance) {
+        Choice::Store8088 if true_run => Call::DrawAfresh,
+        choice => call(chance, &sides.model, choice),
+    };
+    lent(chance, call)
+}

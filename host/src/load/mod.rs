@@ -1,0 +1,129 @@
+//! Drives the linked library and the model of document 01 with the same calls, and compares what each answers
+//! and every byte that each was lent.
+mod aim;
+mod call;
+mod choose;
+mod library;
+mod model;
+mod seen;
+mod shrink;
+mod sides;
+mod sweep;
+mod words;
+mod world;
+mod wrong;
+
+pub use call::FUNCTIONS;
+pub use shrink::Script;
+pub use wrong::{Wrong, WRONGS};
+
+use crate::hard::Chance;
+use call::{Call, Step};
+use sides::Sides;
+use std::thread::spawn;
+use world::World;
+
+/// How many calls there were of each function, and how many were answered by each number of refusal.
+#[derive(Default)]
+pub struct Tally {
+    pub calls: [u64; FUNCTIONS.len()],
+    pub refusals: [u64; 7],
+}
+
+impl Tally {
+    pub fn total(&self) -> u64 {
+        self.calls.iter().sum()
+    }
+
+    fn add(&mut self, other: &Self) {
+        let calls = self.calls.iter_mut().zip(other.calls);
+        calls.for_each(|(sum, calls)| *sum += calls);
+        let refusals = self.refusals.iter_mut().zip(other.refusals);
+        refusals.for_each(|(sum, refused)| *sum += refused);
+    }
+}
+
+/// One run: the calls made so far in a world.
+struct Run<'a> {
+    world: World,
+    sides: Sides,
+    steps: Vec<Step>,
+    wrong: Wrong,
+    tally: &'a mut Tally,
+}
+
+impl<'a> Run<'a> {
+    fn new(chance: &mut Chance, wrong: Wrong, tally: &'a mut Tally) -> Self {
+        let world = World::any(chance);
+        Self {
+            world,
+            sides: Sides::new(&world, wrong),
+            steps: Vec::new(),
+            wrong,
+            tally,
+        }
+    }
+
+    fn step(&mut self, step: Step) -> Result<(), Script> {
+        self.steps.push(step);
+        let answer = self.sides.step(&step).map_err(|_| self.script())?;
+        if let Some(function) = step.call.function() {
+            self.tally.calls[function] += 1;
+            self.tally.refusals[usize::from(answer.refusal)] += 1;
+        }
+        Ok(())
+    }
+
+    fn end(&self) -> Result<(), Script> {
+        self.sides.compare_all().map_err(|_| self.script())
+    }
+
+    fn script(&self) -> Script {
+        shrink::shrunk(self.world, &self.steps, self.wrong)
+            .expect("the same calls end in a difference again")
+    }
+}
+
+/// As many run at once, each on buffers of its own, which the header allows.
+const THREADS: u64 = 2;
+
+/// Makes the calls of the sweep, and then calls by chance until there have been so many.
+pub fn load(calls: u64, seed: u64, wrong: Wrong) -> Result<Tally, Script> {
+    let mut tally = sweep_all(&mut Chance(seed), wrong)?;
+    let each = calls.saturating_sub(tally.total()) / THREADS;
+    let threads: Vec<_> = (1..=THREADS)
+        .map(|thread| {
+            let seed = seed.rotate_left(16 * thread as u32);
+            spawn(move || by_chance(each, &mut Chance(seed), wrong))
+        })
+        .collect();
+    for thread in threads {
+        tally.add(&thread.join().expect("a thread that ends")?);
+    }
+    Ok(tally)
+}
+
+fn sweep_all(chance: &mut Chance, wrong: Wrong) -> Result<Tally, Script> {
+    let mut tally = Tally::default();
+    for steps in sweep::pieces() {
+        let mut run = Run::new(chance, wrong, &mut tally);
+        steps.into_iter().try_for_each(|step| run.step(step))?;
+        run.end()?;
+    }
+    Ok(tally)
+}
+
+fn by_chance(calls: u64, chance: &mut Chance, wrong: Wrong) -> Result<Tally, Script> {
+    let mut tally = Tally::default();
+    while tally.total() < calls {
+        let mut run = Run::new(chance, wrong, &mut tally);
+        let true_run = chance.below(2) == 0;
+        for _ in 0..100 + chance.below(300) {
+            let step = choose::step(chance, &run.sides, true_run);
+            run.step(step)?;
+        }
+        run.step(Call::DrawAfresh.into())?;
+        run.end()?;
+    }
+    Ok(tally)
+}

@@ -1,0 +1,176 @@
+//! The model's side: the model of document 01, with its own copy of the buffers and of the machine.
+use super::call::{Buffer, Call, Lengths, Step, BUFFERS};
+use super::library::guard;
+use super::seen::{mirrored, Seen};
+use super::wrong::Wrong;
+use crate::chain::{self, PICTURE};
+use crate::dots;
+use crate::machine::Machine;
+use crate::memories::{self, View8088};
+use crate::{mending, refusal, Answer};
+
+#[derive(Clone)]
+pub struct Model {
+    pub view: View8088,
+    pub private: Vec<u8>,
+    pub table: Vec<u8>,
+    pub nvm: Vec<u8>,
+    pub shadow: Vec<u8>,
+    pub picture: Vec<u8>,
+    pub line: Vec<u8>,
+    pub spare: Vec<u8>,
+    pub machine: Machine,
+}
+
+fn seen<T: TryInto<u64>>(answer: Answer<T>) -> Seen {
+    match answer {
+        Ok(value) => Seen::value(value),
+        Err(number) => Seen::refusal(number),
+    }
+}
+
+impl Model {
+    pub fn bytes(&self, buffer: Buffer) -> &[u8] {
+        match buffer {
+            Buffer::Shared => &self.view.shared,
+            Buffer::Private => &self.private,
+            Buffer::Screen => &self.view.screen,
+            Buffer::Attribute => &self.view.attribute,
+            Buffer::Table => &self.table,
+            Buffer::Nvm => &self.nvm,
+            Buffer::Shadow => &self.shadow,
+            Buffer::Picture => &self.picture,
+            Buffer::Line => &self.line,
+            Buffer::Spare => &self.spare,
+        }
+    }
+
+    pub fn bytes_mut(&mut self, buffer: Buffer) -> &mut Vec<u8> {
+        match buffer {
+            Buffer::Shared => &mut self.view.shared,
+            Buffer::Private => &mut self.private,
+            Buffer::Screen => &mut self.view.screen,
+            Buffer::Attribute => &mut self.view.attribute,
+            Buffer::Table => &mut self.table,
+            Buffer::Nvm => &mut self.nvm,
+            Buffer::Shadow => &mut self.shadow,
+            Buffer::Picture => &mut self.picture,
+            Buffer::Line => &mut self.line,
+            Buffer::Spare => &mut self.spare,
+        }
+    }
+
+    /// Makes the call. Buffers of other lengths are lent as copies, and what they then hold comes back.
+    pub fn call(&mut self, step: &Step, wrong: Wrong) -> Seen {
+        if step.whole() {
+            return wrong.call(self, &step.call);
+        }
+        let mut lent = self.clone();
+        lent.resize(&step.lent);
+        let seen = wrong.call(&mut lent, &step.call);
+        self.machine = lent.machine;
+        for buffer in BUFFERS {
+            let from = lent.bytes(buffer);
+            let same = from.len().min(buffer.listed());
+            self.bytes_mut(buffer)[..same].copy_from_slice(&from[..same]);
+        }
+        seen
+    }
+
+    fn resize(&mut self, lent: &Lengths) {
+        for buffer in BUFFERS {
+            let listed = buffer.listed();
+            let length = lent.of(buffer).length(listed).unwrap_or(0);
+            let bytes = self.bytes_mut(buffer);
+            bytes.truncate(length);
+            bytes.extend((listed..length).map(|place| guard(buffer, place - listed)));
+        }
+    }
+
+    /// What document 01 says of the call.
+    pub fn right(&mut self, call: &Call) -> Seen {
+        let machine = self.machine;
+        match *call {
+            Call::Version => Seen::value(1u8),
+            Call::PowerUp => Seen::machine(0, mirrored(&Machine::power_up())),
+            Call::VerticalTick => {
+                self.machine.interrupt = true;
+                Seen::machine(0, mirrored(&self.machine))
+            }
+            Call::Columns => Seen::value(machine.columns),
+            Call::Blanked => Seen::value(machine.blanked()),
+            Call::Graphics => Seen::value(machine.graphics()),
+            Call::DotsOfLine => Seen::value(if machine.columns == 80 { 800 } else { 1188u16 }),
+            Call::IsMarked { marks, row } => Seen::value(row < 32 && marks >> row & 1 == 1),
+            _ => self.lending_call(call),
+        }
+    }
+
+    fn lending_call(&mut self, call: &Call) -> Seen {
+        match *call {
+            Call::WritePort { port, code } => {
+                let (shadow, nvm) = (&mut self.shadow, &mut self.nvm);
+                let written = self.machine.write(shadow, nvm, port, code);
+                Seen::machine(refusal(&written), mirrored(&self.machine))
+            }
+            Call::Draw => seen(self.draw(Buffer::Picture)),
+            Call::DrawAfresh => seen(self.draw(Buffer::Spare)),
+            Call::GlyphPart { code } => self.glyph_part(code),
+            Call::ScanLine { row, scan } => {
+                let (machine, line) = (self.machine, &mut self.line);
+                let (picture, table) = (&self.picture, &self.table);
+                let drawn = dots::scan_line(&machine, picture, table, row, scan, line);
+                Seen::refusal(refusal(&drawn))
+            }
+            Call::ReadShadow { place } => seen(memories::shadow_read(&self.shadow, place)),
+            Call::WriteShadow { place, value } => {
+                let written = memories::shadow_write(&mut self.shadow, place, value);
+                Seen::refusal(refusal(&written))
+            }
+            _ => self.memory_call(call),
+        }
+    }
+
+    fn memory_call(&mut self, call: &Call) -> Seen {
+        let (view, private) = (&mut self.view, &mut self.private);
+        match *call {
+            Call::Read8088 { address } => seen(view.read(address)),
+            Call::Store8088 { address, byte } => Seen::refusal(refusal(&view.store(address, byte))),
+            Call::ReadZ80 { address } => {
+                seen(memories::z80_read(private, &mut view.shared, address))
+            }
+            Call::StoreZ80 { address, byte } => {
+                let stored = memories::z80_store(private, &mut view.shared, address, byte);
+                Seen::refusal(refusal(&stored))
+            }
+            Call::StoreWithPicture { address, byte } => {
+                let columns = self.machine.columns.into();
+                let picture = &mut self.picture;
+                seen(mending::store(view, picture, columns, address, byte))
+            }
+            _ => unreachable!("no call: {call:?}"),
+        }
+    }
+
+    fn draw(&mut self, into: Buffer) -> Answer<usize> {
+        let columns = self.machine.columns.into();
+        let drawn = chain::draw(&self.view.screen, &self.view.attribute, columns)?;
+        let picture = self.bytes_mut(into);
+        if picture.len() != PICTURE {
+            return Err(1);
+        }
+        picture.copy_from_slice(&drawn.picture);
+        Ok(drawn.reads)
+    }
+
+    /// The part as the place that it has in the table.
+    fn glyph_part(&self, code: u8) -> Seen {
+        match dots::part(&self.table, code) {
+            Err(number) => Seen::refusal(number),
+            Ok(part) => Seen {
+                length: part.len() as u64,
+                ..Seen::value(part.as_ptr() as usize - self.table.as_ptr() as usize)
+            },
+        }
+    }
+}

@@ -1,0 +1,148 @@
+//! Makes the calls that ended in a difference as few and as plain as they can be while there is one.
+use super::call::{Call, Lent, Step};
+use super::sides::{Differs, Sides};
+use super::words::words;
+use super::world::{Kind, World};
+use super::wrong::Wrong;
+use crate::machine::Machine;
+use std::fmt;
+
+/// Calls that end in a difference.
+pub struct Script {
+    pub world: World,
+    pub steps: Vec<Step>,
+    pub differs: Differs,
+}
+
+impl fmt::Display for Script {
+    fn fmt(&self, to: &mut fmt::Formatter) -> fmt::Result {
+        let World { seed, kind } = self.world;
+        let steps = self.steps.len();
+        writeln!(
+            to,
+            "A difference after {steps} of these in the world {kind:?}, seed {seed:X}:"
+        )?;
+        for step in &self.steps {
+            writeln!(to, "  {}", words(step))?;
+        }
+        write!(to, "{}", self.differs)
+    }
+}
+
+/// Steps tried again in a world.
+struct Trial {
+    world: World,
+    fresh: Sides,
+}
+
+impl Trial {
+    fn new(world: World, wrong: Wrong) -> Self {
+        let fresh = Sides::new(&world, wrong);
+        Self { world, fresh }
+    }
+
+    /// The steps up to the first difference, if there is one.
+    fn script(&self, steps: &[Step]) -> Option<Script> {
+        let mut sides = self.fresh.clone();
+        let found = |steps: &[Step], differs| Script {
+            world: self.world,
+            steps: steps.to_vec(),
+            differs,
+        };
+        for (at, step) in steps.iter().enumerate() {
+            if let Err(differs) = sides.step(step) {
+                return Some(found(&steps[..=at], differs));
+            }
+        }
+        let differs = sides.compare_all().err()?;
+        Some(found(steps, differs))
+    }
+}
+
+/// The shortest script that removing and simplifying comes to.
+pub fn shrunk(world: World, steps: &[Step], wrong: Wrong) -> Option<Script> {
+    let trial = Trial::new(world, wrong);
+    let script = fewer(&trial, trial.script(steps)?);
+    let script = plainer(&trial, script);
+    let blank = World {
+        kind: Kind::Blank,
+        ..world
+    };
+    let blank = Trial::new(blank, wrong);
+    match blank.script(&script.steps) {
+        Some(script) => Some(plainer(&blank, fewer(&blank, script))),
+        None => Some(script),
+    }
+}
+
+/// Removes halves, then quarters, down to single calls, as long as a difference remains.
+fn fewer(trial: &Trial, mut script: Script) -> Script {
+    let mut piece = script.steps.len();
+    while piece > 0 {
+        let before = script.steps.len();
+        let mut at = 0;
+        while at < script.steps.len() {
+            let mut steps = script.steps.clone();
+            steps.drain(at..(at + piece).min(steps.len()));
+            match trial.script(&steps) {
+                Some(shorter) => script = shorter,
+                None => at += piece,
+            }
+        }
+        let again = piece == 1 && script.steps.len() < before;
+        piece = if again { 1 } else { piece / 2 };
+    }
+    script
+}
+
+/// Tries each call with plainer numbers.
+fn plainer(trial: &Trial, mut script: Script) -> Script {
+    let mut at = 0;
+    while at < script.steps.len() {
+        for step in plainer_steps(&script.steps[at]) {
+            let mut steps = script.steps.clone();
+            if let Some(place) = steps.get_mut(at) {
+                *place = step;
+            }
+            if let Some(plain) = trial.script(&steps) {
+                script = plain;
+            }
+        }
+        at += 1;
+    }
+    script
+}
+
+fn plainer_steps(step: &Step) -> Vec<Step> {
+    let lent = step.lent;
+    let plain = plainer_calls(&step.call).into_iter();
+    let mut steps: Vec<Step> = plain.map(|call| Step { call, lent }).collect();
+    for buffer in step.call.buffers() {
+        let mut whole = *step;
+        whole.lent.set(*buffer, Lent::Whole);
+        steps.push(whole);
+    }
+    steps.retain(|other| other != step);
+    steps
+}
+
+fn plainer_calls(call: &Call) -> Vec<Call> {
+    match *call {
+        Call::WritePort { port, .. } => vec![Call::WritePort { port, code: 0 }],
+        Call::Store8088 { address, .. } => vec![Call::Store8088 { address, byte: 0 }],
+        Call::StoreZ80 { address, .. } => vec![Call::StoreZ80 { address, byte: 0 }],
+        Call::WriteShadow { place, .. } => vec![Call::WriteShadow { place, value: 0 }],
+        Call::StoreWithPicture { address, .. } => {
+            vec![Call::StoreWithPicture { address, byte: 0 }]
+        }
+        Call::ScanLine { row, scan } => {
+            vec![
+                Call::ScanLine { row: 0, scan },
+                Call::ScanLine { row, scan: 1 },
+            ]
+        }
+        Call::IsMarked { row, .. } => vec![Call::IsMarked { marks: 0, row }],
+        Call::SetMachine(_) => vec![Call::SetMachine(Machine::power_up())],
+        _ => Vec::new(),
+    }
+}

@@ -1,0 +1,143 @@
+//! The library and the model side by side, given the same calls.
+use super::call::{Buffer, Call, Step, BUFFERS};
+use super::library::Library;
+use super::model::Model;
+use super::seen::{mirrored, Seen};
+use super::words::answered;
+use super::world::{self, World};
+use super::wrong::Wrong;
+use crate::chain::{self, PICTURE, RECORD};
+use crate::hard::Chance;
+
+#[derive(Clone)]
+pub struct Sides {
+    pub model: Model,
+    pub library: Library,
+    /// The picture has been drawn, and nothing has been done since that demand 3's runs do not hold.
+    pub kept: bool,
+    wrong: Wrong,
+    before: Vec<u8>,
+}
+
+/// What differed.
+pub type Differs = String;
+
+impl Sides {
+    pub fn new(world: &World, wrong: Wrong) -> Self {
+        let model = world.model();
+        Self {
+            library: Library::new(&model),
+            model,
+            kept: false,
+            wrong,
+            before: vec![0; PICTURE],
+        }
+    }
+
+    /// Makes a call on both sides and compares all that it may have changed.
+    pub fn step(&mut self, step: &Step) -> Result<Seen, Differs> {
+        if step.call.function().is_none() {
+            self.by_hand(&step.call);
+            return Ok(Seen::default());
+        }
+        let columns = self.model.machine.columns;
+        self.before
+            .copy_from_slice(self.library.content(Buffer::Picture));
+        let mut model = self.model.call(step, self.wrong);
+        let mut library = self.library.call(step);
+        self.try_wrong(&step.call, [&mut model, &mut library]);
+        match library.difference(&model, answered(&step.call)) {
+            Some(differs) => Err(differs),
+            None => Ok(()),
+        }?;
+        for buffer in step.call.buffers() {
+            self.compare(*buffer, !step.whole())?;
+        }
+        if self.library.machine != mirrored(&self.model.machine) {
+            return Err("the machine".to_string());
+        }
+        self.demands(&step.call, &library)?;
+        let accepted = library.refusal == 0;
+        self.kept = match step.call {
+            Call::Draw if accepted => true,
+            Call::Store8088 { .. } if accepted => false,
+            _ => self.kept && self.model.machine.columns == columns,
+        };
+        Ok(library)
+    }
+
+    fn try_wrong(&mut self, call: &Call, answers: [&mut Seen; 2]) {
+        self.wrong.after(call, &mut self.library, &mut self.model);
+        for seen in answers {
+            self.wrong.answered(call, seen);
+        }
+    }
+
+    fn compare(&self, buffer: Buffer, far: bool) -> Result<(), Differs> {
+        let model = self.model.bytes(buffer);
+        match self.library.differs(buffer, model, far) {
+            Some(differs) => Err(differs),
+            None => Ok(()),
+        }
+    }
+
+    /// Every byte on both sides.
+    pub fn compare_all(&self) -> Result<(), Differs> {
+        let compare = |buffer: &Buffer| self.compare(*buffer, true);
+        BUFFERS.iter().try_for_each(compare)
+    }
+
+    /// What document 01 demands of the library alone, whatever the model says.
+    fn demands(&self, call: &Call, seen: &Seen) -> Result<(), Differs> {
+        match call {
+            Call::StoreWithPicture { .. } => {
+                let after = self.library.content(Buffer::Picture).chunks(RECORD);
+                let records = self.before.chunks(RECORD).zip(after).enumerate();
+                let marks: u64 = records
+                    .map(|(row, (before, after))| u64::from(before != after) << row)
+                    .sum();
+                if marks != seen.value {
+                    let wanted = format!("the records that changed are {marks:X}");
+                    return Err(format!("the marks are {:X}, but {wanted}", seen.value));
+                }
+            }
+            Call::DrawAfresh if seen.refusal == 0 && self.kept => {
+                let kept = self.library.content(Buffer::Picture);
+                let fresh = self.library.content(Buffer::Spare);
+                if let Some(place) = (0..PICTURE).find(|place| kept[*place] != fresh[*place]) {
+                    let (row, byte) = (place / RECORD, place % RECORD);
+                    return Err(format!(
+                        "the kept picture differs from a fresh one in row {row:X}, byte {byte:X}"
+                    ));
+                }
+            }
+            _ => {}
+        }
+        Ok(())
+    }
+
+    fn by_hand(&mut self, call: &Call) {
+        self.kept = false;
+        match *call {
+            Call::SetMachine(machine) => {
+                self.model.machine = machine;
+                self.library.machine = mirrored(&machine);
+            }
+            Call::AlterPicture { place, byte } => self.model.picture[place] = byte,
+            Call::StrewPicture { seed } => {
+                let mut chance = Chance(seed);
+                let picture = self.model.picture.iter_mut();
+                picture.for_each(|byte| *byte = chance.byte());
+            }
+            Call::OtherPicture { seed } => {
+                let (mut chance, columns) = (Chance(seed), self.model.machine.columns.into());
+                let (screen, attribute) = world::any_memories(&mut chance, columns);
+                let drawn = chain::draw(&screen, &attribute, columns);
+                self.model.picture = drawn.expect("the right lengths").picture;
+            }
+            _ => {}
+        }
+        let picture = self.library.buffers[Buffer::Picture as usize].content_mut();
+        picture.copy_from_slice(&self.model.picture);
+    }
+}

@@ -1,0 +1,127 @@
+//! Every port, code, edge, row, scan and place once, before calls are chosen by chance.
+use super::aim::EDGES;
+use super::call::{Call, Step, WRONG_LENGTHS};
+use crate::machine::Machine;
+
+/// The calls of the sweep in pieces, each for a world of its own.
+pub fn pieces() -> Vec<Vec<Step>> {
+    let pieces = [ports(), edges(), addresses(), places(), lines(), marks()];
+    let mut all: Vec<Vec<Step>> = pieces
+        .iter()
+        .map(|calls| calls.iter().copied().map(Step::from).collect())
+        .collect();
+    all.push(lengths());
+    all
+}
+
+fn ports() -> Vec<Call> {
+    let of_port = |port| (0..=255).map(move |code| Call::WritePort { port, code });
+    let each =
+        (0..=0x10F).flat_map(|port| [0x00, 0x05, 0x10].map(|code| Call::WritePort { port, code }));
+    let listed = [0x04, 0x0A, 0x0C, 0x10C].into_iter().flat_map(of_port);
+    listed.chain(each).collect()
+}
+
+/// Every code to port 0A after bytes about its edges, with a shadow that differs from the NVM.
+fn edges() -> Vec<Call> {
+    let mut calls = Vec::new();
+    for held in [0x00, 0x3F, 0x40, 0x7F, 0x80, 0xBF, 0xC0, 0xFF] {
+        for code in 0..=255 {
+            let machine = Machine {
+                held,
+                ..Machine::power_up()
+            };
+            let (place, value) = (code.into(), held ^ code);
+            calls.push(Call::SetMachine(machine));
+            calls.push(Call::WriteShadow { place, value });
+            calls.push(Call::WritePort { port: 0x0A, code });
+        }
+    }
+    calls
+}
+
+fn addresses() -> Vec<Call> {
+    let mut calls = vec![Call::Draw];
+    for address in EDGES {
+        calls.push(Call::Read8088 { address });
+        for byte in [0x00, 0xFF, 0x41] {
+            calls.push(Call::StoreWithPicture { address, byte });
+            calls.push(Call::Store8088 { address, byte });
+            calls.push(Call::DrawAfresh);
+        }
+        let address = address as u16;
+        calls.push(Call::ReadZ80 { address });
+        calls.push(Call::StoreZ80 {
+            address,
+            byte: 0x42,
+        });
+    }
+    calls
+}
+
+fn places() -> Vec<Call> {
+    let huge = [1 << 16, 1 << 32, usize::MAX - 255, usize::MAX];
+    let of_place = |place| {
+        let value = place as u8 ^ 0xA5;
+        let read = Call::ReadShadow { place };
+        [read, Call::WriteShadow { place, value }, read]
+    };
+    let shadow = (0..=260).chain(huge).flat_map(of_place);
+    let parts = (0..=255).map(|code| Call::GlyphPart { code });
+    shadow.chain(parts).collect()
+}
+
+fn lines() -> Vec<Call> {
+    let shown = Call::WritePort {
+        port: 0x0A,
+        code: 0x02,
+    };
+    let mut calls = vec![shown, Call::Draw];
+    for row in (0..=24).chain([255, usize::MAX]) {
+        for scan in (0..=11).chain([16, usize::MAX]) {
+            calls.push(Call::ScanLine { row, scan });
+        }
+    }
+    calls
+}
+
+fn marks() -> Vec<Call> {
+    let of_marks = |marks| {
+        let rows = (0..=33).chain([64, 1 << 32, usize::MAX]);
+        rows.map(move |row| Call::IsMarked { marks, row })
+    };
+    let all = [0, 1, 0x80_0000, 0xFF_FFFF, 0x8000_0000, u32::MAX];
+    all.into_iter().flat_map(of_marks).collect()
+}
+
+/// Every call that is lent buffers, with each of them of each wrong length.
+fn lengths() -> Vec<Step> {
+    let (address, byte) = (0xEE000, 0x41);
+    let calls = [
+        Call::WritePort { port: 4, code: 0 },
+        Call::Read8088 { address },
+        Call::Store8088 { address, byte },
+        Call::ReadZ80 { address: 0 },
+        Call::StoreZ80 { address: 0, byte },
+        Call::ReadShadow { place: 0 },
+        Call::WriteShadow { place: 0, value: 1 },
+        Call::Draw,
+        Call::StoreWithPicture { address, byte },
+        Call::GlyphPart { code: 0x41 },
+        Call::ScanLine { row: 0, scan: 1 },
+    ];
+    let mut steps = Vec::new();
+    for call in calls {
+        for wrong in WRONG_LENGTHS {
+            let mut all = Step::from(call);
+            for buffer in call.buffers() {
+                let mut one = Step::from(call);
+                one.lent.set(*buffer, wrong);
+                all.lent.set(*buffer, wrong);
+                steps.push(one);
+            }
+            steps.push(all);
+        }
+    }
+    steps
+}

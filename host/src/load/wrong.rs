@@ -1,0 +1,126 @@
+//! Wrong answers, to see that the tester finds them and shrinks what found them.
+use super::call::{Buffer, Call};
+use super::library::Library;
+use super::model::Model;
+use super::seen::Seen;
+use crate::chain::{PICTURE, PLACES, RECORD};
+use crate::machine::Machine;
+
+/// Which mistake is made; 0 is none.
+#[derive(Clone, Copy, Debug, PartialEq, Eq)]
+pub struct Wrong(pub usize);
+
+pub const WRONGS: [&str; 12] = [
+    "row 0's link is taken high byte first",
+    "row 23 is never marked",
+    "the Z80's private memory ends a byte later",
+    "codes 04 to 07 load the latch's low bits",
+    "scan 9 is not underlined",
+    "a refused call changes a byte",
+    "the read count is one too high",
+    "the mend stops at the first row that changed",
+    "the byte after the picture changes in a drawing",
+    "a drawing leaves a wrong byte in row 23, on both sides",
+    "a store marks row 0 too, on both sides",
+    "at 132 columns, 50 Hz, latch 9, reversed, blinking, with an interrupt, it is blanked",
+];
+
+impl Wrong {
+    /// The model's answer, with the mistake.
+    pub fn call(self, model: &mut Model, call: &Call) -> Seen {
+        match (self.0, call) {
+            (1, Call::Draw) => high_byte_first(model),
+            (3, Call::ReadZ80 { address: 0x800 }) => model.right(&Call::ReadZ80 { address: 0x7FF }),
+            (4, Call::WritePort { port, code }) if port & 0xF == 0xC && code >> 2 == 1 => {
+                let (port, code) = (*port, code & 3);
+                model.right(&Call::WritePort { port, code })
+            }
+            (5, Call::ScanLine { .. }) => not_underlined(model, call),
+            (8, Call::StoreWithPicture { .. }) => first_row_only(model, call),
+            _ => self.answer(call, model),
+        }
+    }
+
+    fn answer(self, call: &Call, model: &mut Model) -> Seen {
+        let mut seen = model.right(call);
+        match (self.0, call) {
+            (2, Call::StoreWithPicture { .. }) => seen.value &= !(1 << 23),
+            (6, Call::WriteShadow { .. }) if seen.refusal == 5 => model.shadow[0] ^= 1,
+            (7, Call::Draw) if seen.refusal == 0 => seen.value += 1,
+            (12, Call::Blanked) if rare(&model.machine) => seen.value = 1,
+            _ => {}
+        }
+        seen
+    }
+
+    /// Mistakes of the library's side, and some that both sides make alike.
+    pub fn after(self, call: &Call, library: &mut Library, model: &mut Model) {
+        let picture = &mut library.buffers[Buffer::Picture as usize];
+        match (self.0, call) {
+            (9, Call::Draw) => picture.break_guard(),
+            (10, Call::Draw) => {
+                picture.content_mut()[PICTURE - 1] = 0x0D;
+                model.picture[PICTURE - 1] = 0x0D;
+            }
+            _ => {}
+        }
+    }
+
+    /// A mistake that both sides make alike in an answer.
+    pub fn answered(self, call: &Call, seen: &mut Seen) {
+        if let (11, Call::StoreWithPicture { .. }, 0) = (self.0, call, seen.refusal) {
+            seen.value |= 1;
+        }
+    }
+}
+
+/// A state that takes several calls to come to.
+fn rare(machine: &Machine) -> bool {
+    let Machine {
+        columns,
+        hertz,
+        latch,
+        ..
+    } = *machine;
+    let flags = machine.reverse && machine.blink && machine.interrupt;
+    (columns, hertz, latch) == (132, 50, 9) && flags
+}
+
+fn high_byte_first(model: &mut Model) -> Seen {
+    let end = model.view.screen.iter().position(|byte| *byte == 0xFF);
+    let end = end.unwrap_or(0);
+    let (low, high) = ((end + 1) % PLACES, (end + 2) % PLACES);
+    let lent = model.view.screen.len() == PLACES;
+    if lent {
+        model.view.screen.swap(low, high);
+    }
+    let seen = model.right(&Call::Draw);
+    if lent {
+        model.view.screen.swap(low, high);
+    }
+    seen
+}
+
+fn not_underlined(model: &mut Model, call: &Call) -> Seen {
+    let kept = model.picture.clone();
+    for record in model.picture.chunks_exact_mut(RECORD) {
+        for attribute in record[4..].iter_mut().skip(1).step_by(2) {
+            *attribute |= 0b1000;
+        }
+    }
+    let seen = model.right(call);
+    model.picture = kept;
+    seen
+}
+
+fn first_row_only(model: &mut Model, call: &Call) -> Seen {
+    let kept = model.picture.clone();
+    let mut seen = model.right(call);
+    if seen.value != 0 {
+        let first = seen.value.trailing_zeros() as usize;
+        let after = (first + 1) * RECORD;
+        model.picture[after..].copy_from_slice(&kept[after..]);
+        seen.value = 1 << first;
+    }
+    seen
+}
