@@ -32,6 +32,25 @@ use Rattle.glyphs.proofs.refusal.Reads as part-refusal
 use Rattle.scan_line.specs.Call.{drawnLine}
 use Rattle.scan_line.proofs.dots_of_line.Reads as dots-of-line
 use Rattle.scan_line.proofs.draw.Reads as draw-line
+use Rattle.rainbow.proofs.machine_calls.rainbow_power_up.Reads as c-power-up
+use Rattle.rainbow.proofs.machine_calls.rainbow_vertical_tick.Reads as c-vertical-tick
+use Rattle.rainbow.proofs.machine_calls.rainbow_columns.Reads as c-columns
+use Rattle.rainbow.proofs.machine_calls.rainbow_blanked.Reads as c-blanked
+use Rattle.rainbow.proofs.machine_calls.rainbow_graphics.Reads as c-graphics
+use Rattle.rainbow.proofs.machine_calls.rainbow_version.Reads as c-version
+use Rattle.rainbow.proofs.machine_calls.rainbow_write_port.Reads as c-write-port
+use Rattle.rainbow.proofs.processors.rainbow_read_8088.Reads as c-read-8088
+use Rattle.rainbow.proofs.processors.rainbow_store_8088.Reads as c-store-8088
+use Rattle.rainbow.proofs.processors.rainbow_read_z80.Reads as c-read-z80
+use Rattle.rainbow.proofs.processors.rainbow_store_z80.Reads as c-store-z80
+use Rattle.rainbow.proofs.processors.rainbow_read_shadow.Reads as c-read-shadow
+use Rattle.rainbow.proofs.processors.rainbow_write_shadow.Reads as c-write-shadow
+use Rattle.rainbow.proofs.screen.rainbow_draw.Reads as c-draw
+use Rattle.rainbow.proofs.screen.rainbow_store_with_picture.Reads as c-store-with-picture
+use Rattle.rainbow.proofs.screen.rainbow_is_marked.Reads as c-is-marked
+use Rattle.rainbow.proofs.dots.rainbow_glyph_part.Reads as c-glyph-part
+use Rattle.rainbow.proofs.dots.rainbow_scan_line.Reads as c-scan-line
+use Rattle.rainbow.proofs.dots.rainbow_dots_of_line.Reads as c-dots-of-line
 
 pub no-second : {A : Type 0} {promised one other : A} → one ≡ promised → other ≡ promised → one ≡ other
 no-second p q = p ∙ sym q
@@ -106,3 +125,61 @@ dots-of-line-once κs a r r′ s s′ p q = no-second (p .0) (q .0)
 -- the length of the text follows from the first clause of this promise
 pub list-rows-once : Once list-rows.Post (λ κs r s. listed r (now (s .1 .1 .1 .0)) (now (s .1 .1 .1 .1 .0)))
 list-rows-once κs a r r′ s s′ p q = no-second (p .0) (q .0)
+
+-- the same of the calls under names of C
+pub c-power-up-once : Once c-power-up.Post (λ κs r s. r)
+c-power-up-once κs a r r′ s s′ = no-second
+
+pub c-vertical-tick-once : Once c-vertical-tick.Post (λ κs r s. r)
+c-vertical-tick-once κs a r r′ s s′ = no-second
+
+pub c-columns-once : Once c-columns.Post (λ κs r s. r)
+c-columns-once κs a r r′ s s′ = no-second
+
+pub c-blanked-once : Once c-blanked.Post (λ κs r s. r)
+c-blanked-once κs a r r′ s s′ = no-second
+
+pub c-graphics-once : Once c-graphics.Post (λ κs r s. r)
+c-graphics-once κs a r r′ s s′ = no-second
+
+pub c-version-once : Once c-version.Post (λ κs r s. r)
+c-version-once κs a r r′ s s′ = no-second
+
+pub c-write-port-once : Once c-write-port.Post (λ κs r s. writtenPort r (now (s .1 .0)) (now (s .1 .1 .0)))
+c-write-port-once κs a r r′ s s′ = no-second
+
+pub c-read-8088-once : Once c-read-8088.Post (λ κs r s. r)
+c-read-8088-once κs a r r′ s s′ = no-second
+
+pub c-store-8088-once : Once c-store-8088.Post (λ κs r s. stored8088 r (now (s .0)) (now (s .1 .0)) (now (s .1 .1 .0)))
+c-store-8088-once κs a r r′ s s′ = no-second
+
+pub c-read-z80-once : Once c-read-z80.Post (λ κs r s. r)
+c-read-z80-once κs a r r′ s s′ = no-second
+
+pub c-store-z80-once : Once c-store-z80.Post (λ κs r s. storedZ80 r (now (s .0)) (now (s .1 .0)))
+c-store-z80-once κs a r r′ s s′ = no-second
+
+pub c-read-shadow-once : Once c-read-shadow.Post (λ κs r s. r)
+c-read-shadow-once κs a r r′ s s′ = no-second
+
+pub c-write-shadow-once : Once c-write-shadow.Post (λ κs r s. writtenShadow r (now (s .0)))
+c-write-shadow-once κs a r r′ s s′ = no-second
+
+pub c-draw-once : Once c-draw.Post (λ κs r s. drawn r (now (s .1 .1 .1 .0)))
+c-draw-once κs a r r′ s s′ = no-second
+
+pub c-store-with-picture-once : Once c-store-with-picture.Post (λ κs r s. storedWithPicture r (now (s .1 .0)) (now (s .1 .1 .0)) (now (s .1 .1 .1 .0)) (now (s .1 .1 .1 .1 .0)))
+c-store-with-picture-once κs a r r′ s s′ = no-second
+
+pub c-is-marked-once : Once c-is-marked.Post (λ κs r s. r)
+c-is-marked-once κs a r r′ s s′ = no-second
+
+pub c-glyph-part-once : Once c-glyph-part.Post (λ κs r s. r)
+c-glyph-part-once κs a r r′ s s′ = no-second
+
+pub c-scan-line-once : Once c-scan-line.Post (λ κs r s. drawnLine r (now (s .1 .1 .1 .1 .1 .0)))
+c-scan-line-once κs a r r′ s s′ = no-second
+
+pub c-dots-of-line-once : Once c-dots-of-line.Post (λ κs r s. r)
+c-dots-of-line-once κs a r r′ s s′ = no-second
