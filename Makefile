@@ -6,9 +6,10 @@
 # make png: the tube's picture again as docs/tube.png.
 # make host: librainbow.a from C, C++ and Rust, each call beside the model (on x86-64, with cargo, a C and a C++
 # compiler and valgrind).
-.PHONY: all test expected compare png host archive host-load host-c host-memory clean
+# make bench: the library beside plain C, in time and in instructions (on x86-64, with a C compiler and valgrind).
+.PHONY: all test expected compare png host archive host-load host-c host-memory bench clean
 
-# For make host. ARCHIVE is the folder of librainbow.a, RUN a command put in front of each program, LINK more words
+# For make host and make bench. ARCHIVE is the folder of librainbow.a, RUN a command put in front of each program, LINK more words
 # for the linker of C programs. Where the sanitizers or valgrind cannot be had, SANITIZE and VALGRIND may be empty.
 CARGO ?= cargo
 ARCHIVE ?= target/staticlib
@@ -16,6 +17,7 @@ RUN ?=
 LINK ?=
 SANITIZE ?= -fsanitize=address,undefined
 VALGRIND ?= valgrind -q --error-exitcode=1
+COUNT ?= valgrind --tool=callgrind --callgrind-out-file=/dev/null
 CALLS ?= 1000000
 LOAD ?= host/target/release/load
 LIBRARY = $(ARCHIVE)/librainbow.a
@@ -99,6 +101,12 @@ host-memory:
 	$(C) $(SANITIZE) host/example/asan.c $(LIBRARY) $(LINK) -o target/host/asan
 	$(RUN) target/host/asan
 	$(VALGRIND) $(RUN) $(LOAD) --calls 20000
+
+# COUNT runs a program and tells how many instructions it took.
+bench: archive
+	@mkdir -p target/host
+	$(C) -O3 bench/bench.c bench/plain.c $(LIBRARY) $(LINK) -o target/host/bench
+	RUN='$(RUN)' COUNT='$(COUNT)' bench/table target/host/bench
 
 clean:
 	rm -rf target host/target

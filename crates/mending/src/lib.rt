@@ -48,12 +48,14 @@ fn replace(kept: &mut [u8], drawn: &[u8]) -> bool
     changed
 }
 
+// The row that lies ahead is drawn apart from what is kept of it: `drawn` is room for that, of any bytes.
 fn mend_row(
     columns: usize,
     screen: &[u8],
     attribute: &[u8],
     ahead: Ahead,
     kept: &mut [u8],
+    drawn: &mut [u8; records::RECORD_BYTES],
 ) -> RowMended
     requires { ⌜ length (now screen) ≡ screenBytes ⌝ }
     requires { ⌜ length (now attribute) ≡ attributeBytes ⌝ }
@@ -64,10 +66,9 @@ fn mend_row(
     ensures { λ _. ⌜ now (kept .exit)
         ≡ drawnAhead (chain columns (now (screen .entry)) (now (attribute .entry))) ahead ⌝ }
 {
-    let mut drawn = [0u8; records::RECORD_BYTES];
-    let walked = records::draw_ahead(columns, screen, attribute, ahead, &mut drawn);
+    let walked = records::draw_ahead(columns, screen, attribute, ahead, drawn);
     let next = walked.next;
-    let changed = replace(kept, &drawn);
+    let changed = replace(kept, drawn);
     RowMended { changed, next }
 }
 
@@ -83,13 +84,21 @@ fn mend(columns: usize, screen: &[u8], attribute: &[u8], first: Reader, picture:
     ensures { λ _. ⌜ now (picture .exit)
         ≡ mended (chain columns (now (screen .entry)) (now (attribute .entry))) (first .row) (now (picture .entry)) ⌝ }
 {
+    let mut drawn = [0u8; records::RECORD_BYTES];
     let mut ahead = first.ahead;
     let mut row = first.row;
     let mut marks = 0;
     while row < chain::ROWS {
         let at = row * records::RECORD_BYTES;
         let end = at + records::RECORD_BYTES;
-        let mended = mend_row(columns, screen, attribute, ahead, &mut picture[at..end]);
+        let mended = mend_row(
+            columns,
+            screen,
+            attribute,
+            ahead,
+            &mut picture[at..end],
+            &mut drawn,
+        );
         marks = marks::mark(marks, row, mended.changed);
         ahead = mended.next;
         row += 1;

@@ -11,10 +11,10 @@ use Rattle.mending.proofs.mend.Statement.{statement}
 use Rattle.mending.proofs.mend.Tie as tie
 
 abbrev Inv-loop : tie.InvT-loop
-Inv-loop columns screen attribute picture₀ ahead₀ row₀ marks₀ picture ahead row marks = Mending (chain columns screen attribute) row₀ picture₀ picture ahead marks row
+Inv-loop columns screen attribute picture₀ drawn₀ ahead₀ row₀ marks₀ picture drawn ahead row marks = Mending (chain columns screen attribute) row₀ picture₀ picture ahead marks row
 
 abbrev μ-loop : tie.MeasureT-loop
-μ-loop columns screen attribute picture₀ ahead₀ row₀ marks₀ picture ahead row marks = rows - row
+μ-loop columns screen attribute picture₀ drawn₀ ahead₀ row₀ marks₀ picture drawn ahead row marks = rows - row
 
 loop-holds : tie.Need-loop-holds Inv-loop μ-loop
 loop-holds c =
@@ -39,14 +39,14 @@ part-mend-row-end c = search needs
 
 mend-row-requires : tie.Need-mend-row-requires Inv-loop μ-loop
 mend-row-requires c κs =
-    let i = c .before in
+    let i = c .before .before in
     let l = i .before in
     let p = l .before .before .before .before .pre in
     (p .0, (p .1 .0, ((p .1 .1 .1 .0 .0, rw (l .loop .inv .comes (i .loop-test .taken)) (ahead-placed _ _)), record-lent _ _ (l .loop .inv .same) (i .loop-test .taken))))
 
 mark-requires : tie.Need-mark-requires Inv-loop μ-loop
 mark-requires c κs =
-    let i = c .before .before .before .before in
+    let i = c .before .before .before .before .before in
     let m = i .before .loop .inv in
     (rw (m .told) (marks-under _ _), omega arith)
 
@@ -59,7 +59,7 @@ loop-less c = search needs
 loop-again : tie.Need-loop-again Inv-loop μ-loop
 loop-again c =
     let r = c .before .before .before in
-    let i = r .before .before in
+    let i = r .before .before .before in
     let l = i .before in
     let p = l .before .before .before .before .pre in
     mend-goes-on _ _ _ (p .1 .1 .1 .0 .0) (p .1 .1 .0) (l .loop .inv) (i .loop-test .taken) (r .mend-row .ensures .0) (r .mend-row .ensures .1)

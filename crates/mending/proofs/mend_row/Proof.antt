@@ -3,14 +3,8 @@ use borrow.Author.Needs.{needs}
 use Rattle.mending.proofs.mend_row.Statement.{statement}
 use Rattle.mending.proofs.mend_row.Tie as tie
 
-slice-aggregate-draw-ahead : tie.Need-slice-aggregate-draw-ahead
-slice-aggregate-draw-ahead c = search needs
-
 draw-ahead-requires : tie.Need-draw-ahead-requires
 draw-ahead-requires c κs = search needs
-
-slice-aggregate-replace : tie.Need-slice-aggregate-replace
-slice-aggregate-replace c = search needs
 
 replace-requires : tie.Need-replace-requires
 replace-requires c κs = search needs
@@ -25,12 +19,4 @@ returns c =
     (rw (r .replace .ensures .0, d .draw-ahead .ensures .1, d .draw-ahead .ensures .0), r .replace .ensures .1 ∙ d .draw-ahead .ensures .1)
 
 pub mend-row-spec : {M : Type 1} → statement M
-mend-row-spec =
-    tie.close
-    (tie.spec
-    slice-aggregate-draw-ahead
-    draw-ahead-requires
-    slice-aggregate-replace
-    replace-requires
-    same-length
-    returns)
+mend-row-spec = tie.close (tie.spec draw-ahead-requires replace-requires same-length returns)
