@@ -32,6 +32,10 @@ use Rattle.glyphs.proofs.refusal.Reads as part-refusal
 use Rattle.scan_line.specs.Call.{drawnLine}
 use Rattle.scan_line.proofs.dots_of_line.Reads as dots-of-line
 use Rattle.scan_line.proofs.draw.Reads as draw-line
+use Rattle.commands.proofs.parse.Reads as parse
+use Rattle.commands.proofs.is_meant.Reads as is-meant
+use Rattle.commands.proofs.form_text.Reads as form-text
+use Rattle.commands.proofs.form_count.Reads as form-count
 use Rattle.rainbow.proofs.machine_calls.rainbow_power_up.Reads as c-power-up
 use Rattle.rainbow.proofs.machine_calls.rainbow_vertical_tick.Reads as c-vertical-tick
 use Rattle.rainbow.proofs.machine_calls.rainbow_columns.Reads as c-columns
@@ -122,9 +126,21 @@ draw-line-once κs a r r′ s s′ = no-second
 pub dots-of-line-once : Once dots-of-line.Post (λ κs r s. r)
 dots-of-line-once κs a r r′ s s′ p q = no-second (p .0) (q .0)
 
--- the length of the text follows from the first clause of this promise
+-- what the programs are made of; the length of the lister's text follows from the first clause of its promise
 pub list-rows-once : Once list-rows.Post (λ κs r s. listed r (now (s .1 .1 .1 .0)) (now (s .1 .1 .1 .1 .0)))
 list-rows-once κs a r r′ s s′ p q = no-second (p .0) (q .0)
+
+pub parse-once : Once parse.Post (λ κs r s. r)
+parse-once κs a r r′ s s′ = no-second
+
+pub is-meant-once : Once is-meant.Post (λ κs r s. r)
+is-meant-once κs a r r′ s s′ = no-second
+
+pub form-text-once : Once form-text.Post (λ κs r s. now r)
+form-text-once κs a r r′ s s′ = no-second
+
+pub form-count-once : Once form-count.Post (λ κs r s. r)
+form-count-once κs a r r′ s s′ = no-second
 
 -- the same of the calls under names of C
 pub c-power-up-once : Once c-power-up.Post (λ κs r s. r)
