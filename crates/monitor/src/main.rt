@@ -28,25 +28,9 @@ fn main() {
     let mut line = [0; desk::LINE];
     let mut desk = desk::power_up();
     let files = os::arg_count();
-    if files < 2 {
+    for i in 1..sources(files) {
         desk = session(
-            STDIN_FILENO,
-            desk,
-            &mut shared,
-            &mut private,
-            &mut screen,
-            &mut attribute,
-            &mut glyphs,
-            &mut nvm,
-            &mut shadow,
-            &mut picture,
-            &mut line,
-        );
-    }
-    for i in 1..files {
-        let fd = opened(i);
-        desk = session(
-            fd,
+            opened(i, files),
             desk,
             &mut shared,
             &mut private,
@@ -61,8 +45,20 @@ fn main() {
     }
 }
 
+// How many arguments there are to read, the program's own name with them: where none names a file, standard input
+// stands for one.
+fn sources(files: usize) -> usize {
+    if files < 2 {
+        return 2;
+    }
+    files
+}
+
 // The file that an argument names. One that cannot be opened is told, and reads as an empty one.
-fn opened(i: usize) -> i32 {
+fn opened(i: usize, files: usize) -> i32 {
+    if files < 2 {
+        return STDIN_FILENO;
+    }
     let mut path = [0u8; PATH_BYTES];
     let n = os::arg(i, &mut path);
     let fd = os::open_read(&path[..n]);

@@ -4,12 +4,12 @@ use Rattle.monitor.proofs.main.Statement.{statement}
 use Rattle.monitor.proofs.main.Tie as tie
 
 abbrev Inv-loop : tie.InvT-loop
-Inv-loop shared₀ private₀ screen₀ attribute₀ glyphs₀ nvm₀ shadow₀ picture₀ line₀ desk₀ files i₀ shared private screen attribute glyphs nvm shadow picture line desk i =
+Inv-loop shared₀ private₀ screen₀ attribute₀ glyphs₀ nvm₀ shadow₀ picture₀ line₀ desk₀ files i₀ i-end shared private screen attribute glyphs nvm shadow picture line desk i =
     Unit {0}
 
 abbrev μ-loop : tie.MeasureT-loop
-μ-loop shared₀ private₀ screen₀ attribute₀ glyphs₀ nvm₀ shadow₀ picture₀ line₀ desk₀ files i₀ shared private screen attribute glyphs nvm shadow picture line desk i =
-    files - i
+μ-loop shared₀ private₀ screen₀ attribute₀ glyphs₀ nvm₀ shadow₀ picture₀ line₀ desk₀ files i₀ i-end shared private screen attribute glyphs nvm shadow picture line desk i =
+    i-end - i
 
 power-up-requires : tie.Need-power-up-requires Inv-loop μ-loop
 power-up-requires c κs = search needs
@@ -17,8 +17,8 @@ power-up-requires c κs = search needs
 arg-count-requires : tie.Need-arg-count-requires Inv-loop μ-loop
 arg-count-requires c κs = search needs
 
-session-requires : tie.Need-session-requires Inv-loop μ-loop
-session-requires c κs = search needs
+sources-requires : tie.Need-sources-requires Inv-loop μ-loop
+sources-requires c κs = search needs
 
 loop-holds : tie.Need-loop-holds Inv-loop μ-loop
 loop-holds c = search needs
@@ -26,8 +26,8 @@ loop-holds c = search needs
 opened-requires : tie.Need-opened-requires Inv-loop μ-loop
 opened-requires c κs = search needs
 
-session-requires-2 : tie.Need-session-requires-2 Inv-loop μ-loop
-session-requires-2 c κs = search needs
+session-requires : tie.Need-session-requires Inv-loop μ-loop
+session-requires c κs = search needs
 
 add-i : tie.Need-add-i Inv-loop μ-loop
 add-i c = search needs
@@ -49,10 +49,10 @@ main-spec =
     μ-loop
     power-up-requires
     arg-count-requires
-    session-requires
+    sources-requires
     loop-holds
     opened-requires
-    session-requires-2
+    session-requires
     add-i
     loop-less
     loop-again
