@@ -9,6 +9,7 @@ pub mod load;
 pub mod machine;
 pub mod memories;
 pub mod mending;
+pub mod monitor;
 #[cfg(feature = "linked")]
 pub mod rainbow;
 pub mod sample;
