@@ -13,6 +13,7 @@ pub mod monitor;
 #[cfg(feature = "linked")]
 pub mod rainbow;
 pub mod sample;
+pub mod scripts;
 pub mod trial;
 pub mod tube_sample;
 
