@@ -2,11 +2,12 @@
 # shows of another to target/tube.pgm.
 # make test: the gate.
 # make expected: what the programs are given and must write, made again by the model in host/.
+# make scripts: the monitor's long scripts, made again from their seeds.
 # make compare: the row lister beside the model, on 5,000 screens that are hard to walk, and the tube on 500.
 # make png: the tube's picture again as docs/tube.png.
 # make host: librainbow.a from C, C++ and Rust, each call beside the model (on x86-64, with cargo, a C and a C++
 # compiler and valgrind).
-.PHONY: all test expected compare png host archive host-load host-c host-memory clean
+.PHONY: all test expected scripts compare png host archive host-load host-c host-memory clean
 
 # For make host. ARCHIVE is the folder of librainbow.a, RUN a command put in front of each program, LINK more words
 # for the linker of C programs. Where the sanitizers or valgrind cannot be had, SANITIZE and VALGRIND may be empty.
@@ -46,6 +47,11 @@ expected:
 	host/target/release/expected_screens > crates/screens/stdout
 	host/target/release/expected_lines > crates/lines/stdout
 	host/target/release/expected_stores > crates/stores/stdout
+	cd crates/monitor/data && ls > ../args && ../../../host/target/release/expected_monitor $$(cat ../args) > ../stdout
+
+scripts:
+	cargo build -q --release --manifest-path host/Cargo.toml
+	host/target/release/scripts crates/monitor/data
 
 compare:
 	rt check rows tube

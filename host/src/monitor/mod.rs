@@ -1,6 +1,7 @@
 //! The language of docs/MONITOR.md, spoken by the model: what the program crates/monitor must answer to its
 //! lines.
 pub mod lines;
+mod memory;
 pub mod session;
 pub mod shown;
 

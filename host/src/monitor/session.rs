@@ -1,12 +1,12 @@
 //! The memories and the machine that a session of the monitor keeps, and what each line does to them.
 use super::lines::{understood, Line, NAMES};
+use super::memory::Memory;
 use super::shown;
 use crate::chain::{self, PICTURE};
 use crate::dots;
 use crate::machine::Machine;
 use crate::memories::{self, View8088};
 use crate::mending;
-use crate::trial::strewn;
 use crate::Answer;
 
 const SHARED: usize = 0;
@@ -19,12 +19,6 @@ const SHADOW: usize = 6;
 const PICTURES: usize = 7;
 const LINE: usize = 8;
 
-/// A memory, one byte longer than its own length, and how many of its bytes are lent.
-struct Memory {
-    bytes: Vec<u8>,
-    lent: usize,
-}
-
 pub struct Session {
     machine: Machine,
     memories: Vec<Memory>,
@@ -32,13 +26,12 @@ pub struct Session {
 
 impl Session {
     pub fn power_up() -> Self {
-        let memory = |(_, length): &(&str, usize)| Memory {
-            bytes: vec![0; length + 1],
-            lent: *length,
-        };
         Self {
             machine: Machine::power_up(),
-            memories: NAMES.iter().map(memory).collect(),
+            memories: NAMES
+                .iter()
+                .map(|(_, length)| Memory::new(*length))
+                .collect(),
         }
     }
 
@@ -74,7 +67,10 @@ impl Session {
             "help" => Ok(shown::help()),
             _ => match numbers {
                 [] => self.without_numbers(form),
-                [name, ..] if form.contains("NAME") => Ok(self.by_hand(form, *name, numbers)),
+                [name, ..] if form.contains("NAME") => {
+                    let memory = &mut self.memories[*name as usize];
+                    Ok(memory.by_hand(form, &numbers[1..]))
+                }
                 _ => self.call(form, numbers),
             }
             .map(|line| vec![line]),
@@ -180,48 +176,6 @@ impl Session {
             _ => 1188,
         };
         Ok(shown::dots(&line[..dots]))
-    }
-
-    /// What is done by hand to a whole memory, whatever is lent of it.
-    fn by_hand(&mut self, form: &str, name: u32, numbers: &[u32]) -> String {
-        const NO_PLACE: &str = "expected a place, or places, that the memory has";
-        const NO_LENGTH: &str = "expected a length up to one more than the memory's own";
-        let memory = &mut self.memories[name as usize];
-        let whole = memory.bytes.len();
-        let first = numbers[1] as usize;
-        let word = match (form.split(' ').next(), numbers) {
-            (Some("lend"), _) if first > whole => NO_LENGTH,
-            (Some("lend"), _) => {
-                memory.lent = first;
-                "lent"
-            }
-            (Some("fill"), _) => {
-                memory.bytes.fill(first as u8);
-                "filled"
-            }
-            (Some("put"), [_, _, byte]) => match memory.bytes.get_mut(first) {
-                Some(place) => {
-                    *place = *byte as u8;
-                    "put"
-                }
-                None => NO_PLACE,
-            },
-            (Some("bytes"), [_, _, many]) => {
-                match memory.bytes.get(first..first + *many as usize) {
-                    Some(bytes) => return shown::bytes("bytes", bytes),
-                    None => NO_PLACE,
-                }
-            }
-            (_, [_, _, every, under]) => {
-                memory.bytes = match every {
-                    0 => vec![0; whole],
-                    _ => strewn(&mut numbers[1].clone(), whole, *every, (*under).max(1)),
-                };
-                "strewn"
-            }
-            _ => NO_PLACE,
-        };
-        word.to_string()
     }
 
     fn lent(&self, name: usize) -> &[u8] {

@@ -6,12 +6,7 @@ pub fn script() -> Script {
     script.remark(
         "SCAN LINES of pictures of any bytes, over strewn glyph tables. The part of every code.",
     );
-    script.lines(&[
-        "power",
-        "port 0A FB",
-        "port 0A 02",
-        "strew glyphs 500 8 256",
-    ]);
+    script.lines(&["power", "strew glyphs 500 8 256"]);
     for code in 0..256 {
         script.line(&format!("glyph {code:02X}"));
     }
