@@ -84,9 +84,7 @@ const DRAWING: [(&str, &[&str], &str, &str); 2] = [
 ];
 
 pub fn script() -> Script {
-    let mut script = Script::new(0);
-    script.remark("LENGTHS. \"1: a lent buffer's length differs from the list. The lowest number wins. All buffers and the machine stay.\"");
-    script.line("power");
+    let mut script = Script::new(0, "LENGTHS. \"1: a lent buffer's length differs from the list. The lowest number wins. All buffers and the machine stay.\"");
     for (seed, (name, _)) in NAMES.iter().enumerate() {
         script.line(&format!("strew {name} {} 20 256", 400 + seed));
     }

@@ -2,11 +2,11 @@
 use super::{Script, RECORD, ROWS};
 
 pub fn script() -> Script {
-    let mut script = Script::new(0);
-    script.remark(
+    let mut script = Script::new(
+        0,
         "SCAN LINES of pictures of any bytes, over strewn glyph tables. The part of every code.",
     );
-    script.lines(&["power", "strew glyphs 500 8 256"]);
+    script.line("strew glyphs 500 8 256");
     for code in 0..256 {
         script.line(&format!("glyph {code:02X}"));
     }

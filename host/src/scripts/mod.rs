@@ -7,6 +7,7 @@ mod run;
 mod strewn;
 
 use crate::chain::{PLACES, RECORD, ROWS};
+use crate::monitor::lines::NAMES;
 use crate::monitor::Session;
 use crate::trial::next;
 
@@ -18,12 +19,19 @@ pub struct Script {
 }
 
 impl Script {
-    fn new(seed: u32) -> Self {
-        Self {
+    /// A script with its first remark, from power-up and memories of 00.
+    fn new(seed: u32, remark: &str) -> Self {
+        let mut script = Self {
             text: String::new(),
             session: Session::power_up(),
             seed,
+        };
+        script.remark(remark);
+        script.line("power");
+        for (name, _) in NAMES {
+            script.line(&format!("fill {name} 00"));
         }
+        script
     }
 
     /// A line, and its answer.

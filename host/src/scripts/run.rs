@@ -4,9 +4,7 @@ use super::Script;
 const TURNS: usize = 320;
 
 pub fn script() -> Script {
-    let mut script = Script::new(5);
-    script.remark("A RUN. Stores by both processors, ticks and writes to ports, refused ones among them; one picture kept.");
-    script.lines(&["power", "fill shared 00", "fill private 00"]);
+    let mut script = Script::new(5, "A RUN. Stores by both processors, ticks and writes to ports, refused ones among them; one picture kept.");
     script.lines(&["fill shadow 11", "fill nvm EE", "strew screen 51 40 17"]);
     script.lines(&["strew attribute 52 30 256", "draw"]);
     for turn in 1..=TURNS {

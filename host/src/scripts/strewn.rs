@@ -2,11 +2,10 @@
 use super::{capacity, Script, ROWS};
 
 pub fn script() -> Script {
-    let mut script = Script::new(7);
-    script.remark(
+    let mut script = Script::new(
+        7,
         "STREWN. Memories of any bytes, one in so many FF, drawn at 80 columns and at 132.",
     );
-    script.lines(&["power", "fill shared 00"]);
     drawn(&mut script);
     kept(&mut script);
     for (columns, torn) in [(80, ROWS), (132, 17)] {
