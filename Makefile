@@ -2,12 +2,13 @@
 # shows of another to target/tube.pgm.
 # make test: the gate.
 # make expected: what the programs are given and must write, made again by the model in host/.
+# make scripts: the monitor's long scripts, made again from their seeds.
 # make compare: the row lister beside the model, on 5,000 screens that are hard to walk, and the tube on 500.
 # make png: the tube's picture again as docs/tube.png.
 # make host: librainbow.a from C, C++ and Rust, each call beside the model (on x86-64, with cargo, a C and a C++
 # compiler and valgrind).
 # make bench: the library beside plain C, in time and in instructions (on x86-64, with a C compiler and valgrind).
-.PHONY: all test expected compare png host archive host-load host-c host-memory bench clean
+.PHONY: all test expected scripts compare png host archive host-load host-c host-memory bench clean
 
 # For make host and make bench. ARCHIVE is the folder of librainbow.a, RUN a command put in front of each program, LINK more words
 # for the linker of C programs. Where the sanitizers or valgrind cannot be had, SANITIZE and VALGRIND may be empty.
@@ -43,11 +44,11 @@ expected:
 	host/target/release/expected_rows > crates/rows/stdout
 	host/target/release/expected_tube memories > crates/tube/stdin
 	host/target/release/expected_tube > crates/tube/stdout
-	host/target/release/expected_calls > crates/calls/stdout
-	host/target/release/expected_long_run > crates/long_run/stdout
-	host/target/release/expected_screens > crates/screens/stdout
-	host/target/release/expected_lines > crates/lines/stdout
-	host/target/release/expected_stores > crates/stores/stdout
+	cd crates/monitor/data && ls > ../args && ../../../host/target/release/expected_monitor $$(cat ../args) > ../stdout
+
+scripts:
+	cargo build -q --release --manifest-path host/Cargo.toml
+	host/target/release/scripts crates/monitor/data
 
 compare:
 	rt check rows tube

@@ -9,9 +9,11 @@ pub mod load;
 pub mod machine;
 pub mod memories;
 pub mod mending;
+pub mod monitor;
 #[cfg(feature = "linked")]
 pub mod rainbow;
 pub mod sample;
+pub mod scripts;
 pub mod trial;
 pub mod tube_sample;
 

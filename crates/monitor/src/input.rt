@@ -66,9 +66,20 @@ pub fn is_comment(text: &[u8]) -> bool {
     text[0] == b'#'
 }
 
+fn parts_words(byte: u8) -> bool {
+    if byte == b' ' {
+        return true;
+    }
+    if byte == b'\t' {
+        return true;
+    }
+    byte == b'\r'
+}
+
+// A line of no words.
 pub fn is_blank(text: &[u8]) -> bool {
     for i in 0..text.len() {
-        if text[i] > b' ' {
+        if !parts_words(text[i]) {
             return false;
         }
     }

@@ -12,8 +12,11 @@ abbrev μ-loop : tie.MeasureT-loop
 loop-holds : tie.Need-loop-holds Inv-loop μ-loop
 loop-holds c = search needs
 
-shared-slice-read-if1 : tie.Need-shared-slice-read-if1 Inv-loop μ-loop
-shared-slice-read-if1 c = search needs
+shared-slice-read-parts-words : tie.Need-shared-slice-read-parts-words Inv-loop μ-loop
+shared-slice-read-parts-words c = search needs
+
+parts-words-requires : tie.Need-parts-words-requires Inv-loop μ-loop
+parts-words-requires c κs = search needs
 
 returns : tie.Need-returns Inv-loop μ-loop
 returns c = search needs
@@ -37,7 +40,8 @@ is-blank-spec =
     Inv-loop
     μ-loop
     loop-holds
-    shared-slice-read-if1
+    shared-slice-read-parts-words
+    parts-words-requires
     returns
     add-i
     loop-less

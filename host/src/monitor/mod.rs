@@ -1,0 +1,77 @@
+//! The language of docs/MONITOR.md, spoken by the model: what the program crates/monitor must answer to its
+//! lines.
+pub mod lines;
+mod memory;
+pub mod session;
+pub mod shown;
+
+pub use session::Session;
+
+/// The lines of a text, without their ends. The last one need not have an end.
+pub fn split(text: &[u8]) -> impl Iterator<Item = &[u8]> {
+    let whole = text.strip_suffix(b"\n").unwrap_or(text);
+    let nothing = text.is_empty();
+    whole.split(|byte| *byte == b'\n').skip(nothing.into())
+}
+
+/// What a session answers to every line of a text.
+pub fn answers(session: &mut Session, text: &[u8]) -> Vec<u8> {
+    split(text).flat_map(|line| session.answer(line)).collect()
+}
+
+#[cfg(test)]
+mod tests {
+    use super::*;
+
+    fn heard(text: &[u8]) -> String {
+        String::from_utf8(answers(&mut Session::power_up(), text)).unwrap()
+    }
+
+    #[test]
+    fn a_last_line_needs_no_end() {
+        assert_eq!(heard(b"read 0"), "reads 00\n");
+        assert_eq!(heard(b"read 0\nread 1\n"), "reads 00\nreads 00\n");
+        assert_eq!(heard(b""), "");
+        assert_eq!(heard(b"\n\n"), "");
+        assert_eq!(heard(b"# a"), "# a\n");
+    }
+
+    #[test]
+    fn calls_are_answered_in_words() {
+        let lines: [(&str, &str); 7] = [
+            ("store 5 41", "stored, marks 00000000\n"),
+            ("draw", "drawn, bytes read: 81"),
+            ("store ee000 fF", "stored, marks 00FFFFFF 0 1 2 3"),
+            ("read 10000", "refused 2: the 8088 sees no memory"),
+            ("bytes screen 4095 2", "bytes 00 00\n"),
+            ("bytes screen 4096 2", "expected a place, or places"),
+            ("lend line 1190", "expected a length up to one more"),
+        ];
+        let mut session = Session::power_up();
+        for (line, begins) in lines {
+            let answer = String::from_utf8(session.answer(line.as_bytes())).unwrap();
+            assert!(answer.starts_with(begins), "{line}: {answer}");
+        }
+    }
+
+    #[test]
+    fn a_wrong_length_stays_lent_until_power_up() {
+        let text = b"lend shared 65537\nread FFFFFFFF\nz80 read 0\nlend shared 65536\nread 0\nlend screen 0\npower\ndraw\n";
+        let refused = "refused 1: a memory lent at another length than its own";
+        let heard = heard(text);
+        let lines: Vec<_> = heard.lines().collect();
+        assert_eq!(lines[..4], ["lent", refused, refused, "lent"]);
+        assert_eq!(lines[4], "reads 00");
+        assert_eq!(lines[7], "drawn, bytes read: 81");
+    }
+
+    #[test]
+    fn bad_lines_tell_the_forms() {
+        let two = "expected z80 store HHHH HH\nexpected z80 read HHHH\n";
+        assert_eq!(heard(b"z80 stored 0 0"), two);
+        assert_eq!(heard(b"fill line"), "expected fill NAME HH\n");
+        let none = "expected one of the lines that help shows\n";
+        assert_eq!(heard(b"nothing"), none);
+        assert_eq!(heard(b" # a"), none);
+    }
+}

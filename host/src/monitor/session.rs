@@ -1,0 +1,212 @@
+//! The memories and the machine that a session of the monitor keeps, and what each line does to them.
+use super::lines::{understood, Line, NAMES};
+use super::memory::Memory;
+use super::shown;
+use crate::chain::{self, PICTURE};
+use crate::dots;
+use crate::machine::Machine;
+use crate::memories::{self, View8088};
+use crate::mending;
+use crate::Answer;
+
+const SHARED: usize = 0;
+const PRIVATE: usize = 1;
+const SCREEN: usize = 2;
+const ATTRIBUTE: usize = 3;
+const GLYPHS: usize = 4;
+const NVM: usize = 5;
+const SHADOW: usize = 6;
+const PICTURES: usize = 7;
+const LINE: usize = 8;
+
+pub struct Session {
+    machine: Machine,
+    memories: Vec<Memory>,
+}
+
+impl Session {
+    pub fn power_up() -> Self {
+        Self {
+            machine: Machine::power_up(),
+            memories: NAMES
+                .iter()
+                .map(|(_, length)| Memory::new(*length))
+                .collect(),
+        }
+    }
+
+    /// The column setting, 80 or 132.
+    pub fn columns(&self) -> usize {
+        self.machine.columns.into()
+    }
+
+    /// The kept picture.
+    pub fn picture(&self) -> &[u8] {
+        &self.memories[PICTURES].bytes[..PICTURE]
+    }
+
+    /// The answer to a line, each of its own lines with an end.
+    pub fn answer(&mut self, line: &[u8]) -> Vec<u8> {
+        let lines = match understood(line) {
+            Line::Blank => return Vec::new(),
+            Line::Remark(remark) => return [remark, b"\n"].concat(),
+            Line::TooLong => vec!["expected at most 200 bytes in a line".to_string()],
+            Line::Bad(forms) => shown::expected(&forms),
+            Line::Call(form, numbers) => self
+                .told(form, &numbers)
+                .unwrap_or_else(|number| vec![shown::refused(number)]),
+        };
+        let ended = lines.into_iter().map(|line| line + "\n");
+        ended.collect::<String>().into_bytes()
+    }
+
+    fn told(&mut self, form: &str, numbers: &[u32]) -> Answer<Vec<String>> {
+        match form {
+            "rows" => Ok(shown::rows(self.picture())),
+            "text" => Ok(shown::text(self.picture(), self.columns())),
+            "help" => Ok(shown::help()),
+            _ => match numbers {
+                [] => self.without_numbers(form),
+                [name, ..] if form.contains("NAME") => {
+                    let memory = &mut self.memories[*name as usize];
+                    Ok(memory.by_hand(form, &numbers[1..]))
+                }
+                _ => self.call(form, numbers),
+            }
+            .map(|line| vec![line]),
+        }
+    }
+
+    fn without_numbers(&mut self, form: &str) -> Answer<String> {
+        let word = match form {
+            "draw" => return self.draw(),
+            "sums" => {
+                let memories = self.memories.iter();
+                return Ok(shown::sums(memories.map(|memory| &memory.bytes[..])));
+            }
+            "tick" => {
+                self.machine.interrupt = true;
+                "ticked"
+            }
+            "power" => {
+                self.machine = Machine::power_up();
+                for (memory, (_, length)) in self.memories.iter_mut().zip(NAMES) {
+                    memory.lent = length;
+                }
+                "power-up"
+            }
+            _ => "machine",
+        };
+        Ok(format!("{word}: {}", shown::machine(&self.machine)))
+    }
+
+    fn call(&mut self, form: &str, numbers: &[u32]) -> Answer<String> {
+        let first = numbers[0];
+        let place = first as usize;
+        let address = first as u16;
+        let second = numbers.get(1).map_or(0, |number| *number as usize);
+        let byte = second as u8;
+        let stored = |_| "stored".to_string();
+        let reads = |byte| shown::bytes("reads", &[byte]);
+        match form.split(" H").next().unwrap_or(form) {
+            "store" => self.store(first, byte),
+            "blind" => self
+                .with_view(|view, _, _| view.store(first, byte))
+                .map(stored),
+            "read" => self.with_view(|view, _, _| view.read(first)).map(reads),
+            "z80 store" => {
+                let (mut private, mut shared) = (self.taken(PRIVATE), self.taken(SHARED));
+                let answer = memories::z80_store(&mut private, &mut shared, address, byte);
+                self.put_back(PRIVATE, &private);
+                self.put_back(SHARED, &shared);
+                answer.map(stored)
+            }
+            "z80 read" => {
+                let (mut private, mut shared) = (self.taken(PRIVATE), self.taken(SHARED));
+                memories::z80_read(&mut private, &mut shared, address).map(reads)
+            }
+            "port" => self.port(address, byte),
+            "shadow write DDDDD" => {
+                let mut shadow = self.taken(SHADOW);
+                let answer = memories::shadow_write(&mut shadow, place, byte);
+                self.put_back(SHADOW, &shadow);
+                answer.map(|_| "written".to_string())
+            }
+            "shadow read DDDDD" => memories::shadow_read(self.lent(SHADOW), place).map(reads),
+            "line DDDDD DDDDD" => self.line(place, second),
+            _ => {
+                let part = dots::part(self.lent(GLYPHS), first as u8)?;
+                Ok(shown::bytes("part", part))
+            }
+        }
+    }
+
+    fn draw(&mut self) -> Answer<String> {
+        let (screen, attribute) = (self.lent(SCREEN), self.lent(ATTRIBUTE));
+        let drawn = chain::draw(screen, attribute, self.columns())?;
+        if self.lent(PICTURES).len() != PICTURE {
+            return Err(1);
+        }
+        self.put_back(PICTURES, &drawn.picture);
+        Ok(format!("drawn, bytes read: {}", drawn.reads))
+    }
+
+    fn store(&mut self, address: u32, byte: u8) -> Answer<String> {
+        let marks = self.with_view(|view, picture, columns| {
+            mending::store(view, picture, columns, address, byte)
+        })?;
+        Ok(shown::marks(marks))
+    }
+
+    fn port(&mut self, port: u16, code: u8) -> Answer<String> {
+        let (mut shadow, mut nvm) = (self.taken(SHADOW), self.taken(NVM));
+        self.machine.write(&mut shadow, &mut nvm, port, code)?;
+        self.put_back(SHADOW, &shadow);
+        self.put_back(NVM, &nvm);
+        Ok(format!("written: {}", shown::machine(&self.machine)))
+    }
+
+    fn line(&mut self, row: usize, scan: usize) -> Answer<String> {
+        let mut line = self.taken(LINE);
+        let (picture, glyphs) = (self.lent(PICTURES), self.lent(GLYPHS));
+        dots::scan_line(&self.machine, picture, glyphs, row, scan, &mut line)?;
+        self.put_back(LINE, &line);
+        let dots = match self.columns() {
+            80 => 800,
+            _ => 1188,
+        };
+        Ok(shown::dots(&line[..dots]))
+    }
+
+    fn lent(&self, name: usize) -> &[u8] {
+        let memory = &self.memories[name];
+        &memory.bytes[..memory.lent]
+    }
+
+    fn taken(&self, name: usize) -> Vec<u8> {
+        self.lent(name).to_vec()
+    }
+
+    fn put_back(&mut self, name: usize, bytes: &[u8]) {
+        self.memories[name].bytes[..bytes.len()].copy_from_slice(bytes);
+    }
+
+    /// A call of the 8088, on what is lent to it.
+    fn with_view<T>(
+        &mut self,
+        call: impl FnOnce(&mut View8088, &mut [u8], usize) -> Answer<T>,
+    ) -> Answer<T> {
+        let mut view = View8088 {
+            shared: self.taken(SHARED),
+            screen: self.taken(SCREEN),
+            attribute: self.taken(ATTRIBUTE),
+        };
+        let mut picture = self.taken(PICTURES);
+        let answer = call(&mut view, &mut picture, self.columns());
+        self.put_back(SHARED, &view.shared);
+        self.put_back(SCREEN, &view.screen);
+        self.put_back(ATTRIBUTE, &view.attribute);
+        self.put_back(PICTURES, &picture);
+        answer
+    }
+}

@@ -1,0 +1,108 @@
+//! The words of the answers.
+use super::lines::{FORMS, NAMES};
+use crate::chain::RECORD;
+use crate::machine::Machine;
+use crate::trial::summed;
+
+pub fn refused(number: u8) -> String {
+    let words = match number {
+        1 => "a memory lent at another length than its own",
+        2 => "the 8088 sees no memory at this address",
+        3 => "the port is none of 04, 0A, 0C, 10C",
+        4 => "the port has no such code",
+        5 => "no such row, scan or place",
+        _ => "bits 6 and 7 both rise",
+    };
+    format!("refused {number}: {words}")
+}
+
+pub fn machine(m: &Machine) -> String {
+    let bit = u8::from;
+    format!(
+        "{} columns, {} Hz, interlace {}, latch {:02X}, blink {}, interrupt {}, reverse {}, watchdog {}, \
+         0A holds {:02X}, blanked {}, graphics {}",
+        m.columns,
+        m.hertz,
+        bit(m.interlace),
+        m.latch,
+        bit(m.blink),
+        bit(m.interrupt),
+        bit(m.reverse),
+        bit(m.watchdog),
+        m.held,
+        bit(m.blanked()),
+        bit(m.graphics()),
+    )
+}
+
+pub fn marks(marks: u32) -> String {
+    let rows = (0..32).filter(|row| marks >> row & 1 == 1);
+    let rows: String = rows.map(|row| format!(" {row}")).collect();
+    format!("stored, marks {marks:08X}{rows}")
+}
+
+/// A word and then bytes.
+pub fn bytes(word: &str, bytes: &[u8]) -> String {
+    let bytes: String = bytes.iter().map(|byte| format!(" {byte:02X}")).collect();
+    format!("{word}{bytes}")
+}
+
+pub fn dots(line: &[u8]) -> String {
+    let dot = |dot: &u8| match dot {
+        0 => '.',
+        lit => char::from(b'0' + lit),
+    };
+    line.iter().map(dot).collect()
+}
+
+pub fn rows(picture: &[u8]) -> Vec<String> {
+    let row = |(row, record): (usize, &[u8])| {
+        let start = u16::from_be_bytes([record[0], record[1]]);
+        let cells = match record[3] {
+            254 => return None,
+            255 => "torn".to_string(),
+            count => format!("cells {count}"),
+        };
+        let kind = record[2];
+        Some(format!("row {row} start {start:04X} kind {kind} {cells}"))
+    };
+    picture.chunks(RECORD).enumerate().filter_map(row).collect()
+}
+
+pub fn text(picture: &[u8], columns: usize) -> Vec<String> {
+    let character = |pair: &[u8]| match pair[0] {
+        0x20..=0x7E => char::from(pair[0]),
+        _ => '.',
+    };
+    let row = |record: &[u8]| {
+        let cells: String = record[4..].chunks(2).take(columns).map(character).collect();
+        format!("|{cells}|")
+    };
+    picture.chunks(RECORD).map(row).collect()
+}
+
+pub fn sums<'a>(memories: impl Iterator<Item = &'a [u8]>) -> String {
+    let sum =
+        |((name, _), bytes): (&(&str, usize), &[u8])| format!(" {name} {:08X}", summed(0, bytes));
+    let sums: String = NAMES.iter().zip(memories).map(sum).collect();
+    format!("sums:{sums}")
+}
+
+pub fn help() -> Vec<String> {
+    let names: String = NAMES.iter().map(|(name, _)| format!(" {name}")).collect();
+    let last = format!(
+        "H is a hexadecimal digit, D a decimal one, and fewer will do; NAME is one of{names}"
+    );
+    let forms = FORMS.iter().map(|form| format!("  {form}"));
+    forms.chain([last]).collect()
+}
+
+pub fn expected(forms: &[&str]) -> Vec<String> {
+    match forms {
+        [] => vec!["expected one of the lines that help shows".to_string()],
+        _ => forms
+            .iter()
+            .map(|form| format!("expected {form}"))
+            .collect(),
+    }
+}

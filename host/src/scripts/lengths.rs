@@ -1,0 +1,137 @@
+//! Every call with each of its memories lent too short and too long.
+use super::Script;
+use crate::monitor::lines::NAMES;
+
+/// What is called, the memories that it is lent, a line that is accepted and one that is not.
+const CALLS: [(&str, &[&str], &str, &str); 11] = [
+    (
+        "the 8088's read",
+        &["shared", "screen", "attribute"],
+        "read EE000",
+        "read F0000",
+    ),
+    (
+        "the 8088's store with no picture",
+        &["shared", "screen", "attribute"],
+        "blind EE000 41",
+        "blind F0000 41",
+    ),
+    (
+        "the 8088's store with a picture lent",
+        &["shared", "screen", "attribute", "picture"],
+        "store EE000 41",
+        "store 10000 41",
+    ),
+    (
+        "the Z80's read",
+        &["private", "shared"],
+        "z80 read 0000",
+        "z80 read 0800",
+    ),
+    (
+        "the Z80's store",
+        &["private", "shared"],
+        "z80 store 0000 41",
+        "z80 store 0800 41",
+    ),
+    (
+        "a port's write, with a save",
+        &["shadow", "nvm"],
+        "port 0A 40",
+        "port 05 FF",
+    ),
+    (
+        "a port's write, with a recall",
+        &["shadow", "nvm"],
+        "port 0A 80",
+        "port 0A C0",
+    ),
+    (
+        "a write of the DC012",
+        &["shadow", "nvm"],
+        "port 0C 08",
+        "port 0C 0C",
+    ),
+    (
+        "a read of the shadow",
+        &["shadow"],
+        "shadow read 0",
+        "shadow read 256",
+    ),
+    (
+        "a write of the shadow",
+        &["shadow"],
+        "shadow write 0 41",
+        "shadow write 256 41",
+    ),
+    ("the part of a code", &["glyphs"], "glyph 00", "glyph FF"),
+];
+
+/// The same of the two calls that draw.
+const DRAWING: [(&str, &[&str], &str, &str); 2] = [
+    (
+        "the drawing call",
+        &["screen", "attribute", "picture"],
+        "draw",
+        "draw",
+    ),
+    (
+        "the scan line call",
+        &["picture", "glyphs", "line"],
+        "line 0 1",
+        "line 24 0",
+    ),
+];
+
+pub fn script() -> Script {
+    let mut script = Script::new(0, "LENGTHS. \"1: a lent buffer's length differs from the list. The lowest number wins. All buffers and the machine stay.\"");
+    for (seed, (name, _)) in NAMES.iter().enumerate() {
+        script.line(&format!("strew {name} {} 20 256", 400 + seed));
+    }
+    for (call, memories, right, wrong) in CALLS.into_iter().chain(DRAWING) {
+        script.remark(&format!("By {call}: {}.", memories.join(", ")));
+        script.line("sums");
+        for name in memories {
+            refused(&mut script, name, right, wrong);
+        }
+        script.lines(&["sums", "machine"]);
+    }
+    script.remark("Two lengths that are wrong at once; a shared and a private memory that are lent for each other.");
+    script.lines(&["lend shared 2048", "lend private 2049", "z80 read 0000"]);
+    script.lines(&["lend screen 0", "lend attribute 0", "read EE000", "draw"]);
+    script.line("power");
+    script.remark("A wrong length of a memory that a call is not lent plays no part.");
+    script.lines(&[
+        "lend private 0",
+        "lend glyphs 0",
+        "lend nvm 0",
+        "lend line 0",
+    ]);
+    script.lines(&["draw", "read EE000", "blind EE000 41", "store EE000 42"]);
+    script.lines(&["shadow write 0 05", "shadow read 0", "power"]);
+    script.lines(&["lend shared 0", "lend private 0", "lend nvm 0", "draw"]);
+    script.lines(&["lend picture 0", "glyph 41", "power", "lend picture 0"]);
+    script.lines(&["read EE000", "blind EE000 43", "power", "lend screen 0"]);
+    script.lines(&["lend attribute 0", "z80 read 0800", "line 0 1"]);
+    script.remark("Lent at their own lengths, each is accepted, or refused by the next number.");
+    script.lines(&["power", "port 0A 02"]);
+    for (_, _, right, wrong) in CALLS.into_iter().chain(DRAWING) {
+        script.lines(&[right, wrong]);
+    }
+    script.lines(&["sums", "machine"]);
+    script
+}
+
+/// A memory lent at three wrong lengths.
+fn refused(script: &mut Script, name: &str, right: &str, wrong: &str) {
+    let found = NAMES.iter().find(|(other, _)| *other == name);
+    let length = found.map_or(0, |(_, length)| *length);
+    for wrong_length in [0, length - 1, length + 1] {
+        script.line(&format!("lend {name} {wrong_length}"));
+        script.line(right);
+        if wrong != right {
+            script.line(wrong);
+        }
+    }
+    script.line(&format!("lend {name} {length}"));
+}

@@ -1,0 +1,61 @@
+//! A run of calls of both processors and of the ports, with one picture kept.
+use super::Script;
+
+const TURNS: usize = 320;
+
+pub fn script() -> Script {
+    let mut script = Script::new(5, "A RUN. Stores by both processors, ticks and writes to ports, refused ones among them; one picture kept.");
+    script.lines(&["fill shadow 11", "fill nvm EE", "strew screen 51 40 17"]);
+    script.lines(&["strew attribute 52 30 256", "draw"]);
+    for turn in 1..=TURNS {
+        match script.next() & 15 {
+            0..=8 => script.aimed_store(),
+            9 | 10 => z80(&mut script),
+            11 => shadow(&mut script),
+            _ => port(&mut script),
+        }
+        if turn % 20 == 0 {
+            script.compare();
+        }
+    }
+    script.lines(&["machine", "rows"]);
+    script
+}
+
+fn z80(script: &mut Script) {
+    let (n, m) = (script.next(), script.next());
+    let address = match m >> 8 & 1 {
+        0 => n & 0xFFFF,
+        _ => 0x07F8 + (n & 15),
+    };
+    match m >> 9 & 3 {
+        0 => script.line(&format!("z80 read {address:04X}")),
+        _ => script.line(&format!("z80 store {address:04X} {:02X}", m & 255)),
+    };
+}
+
+fn shadow(script: &mut Script) {
+    let (n, m) = (script.next() % 272, script.next());
+    script.line(&format!("shadow write {n} {:02X}", m & 255));
+    script.line(&format!("shadow read {}", m % 272));
+}
+
+/// A write to a port; after another column setting the picture is drawn again.
+fn port(script: &mut Script) {
+    let ports = [0x04, 0x04, 0x04, 0x0A, 0x0A, 0x0C, 0x10C, 0x05];
+    let (n, m) = (script.next(), script.next());
+    let port = ports[n & 7];
+    let code = match port {
+        0x04 => (m % 5) << 4,
+        0x0A => m & 255,
+        _ => m % 14,
+    };
+    if n >> 3 & 3 == 0 {
+        script.line("tick");
+    }
+    let before = script.session.columns();
+    script.line(&format!("port {port:02X} {code:02X}"));
+    if script.session.columns() != before {
+        script.line("draw");
+    }
+}
