@@ -2,6 +2,7 @@
 //! named, by the model.
 use host::monitor::{answers, Session};
 use std::io::{self, Read, Write};
+use std::process::exit;
 
 fn main() -> io::Result<()> {
     let mut session = Session::power_up();
@@ -13,7 +14,11 @@ fn main() -> io::Result<()> {
         out.write_all(&answers(&mut session, &text))?;
     }
     for file in files {
-        out.write_all(&answers(&mut session, &std::fs::read(file)?))?;
+        let text = std::fs::read(&file).unwrap_or_else(|error| {
+            eprintln!("expected_monitor: expected a file of lines: {file:?}: {error}");
+            exit(2)
+        });
+        out.write_all(&answers(&mut session, &text))?;
     }
     Ok(())
 }

@@ -1,10 +1,15 @@
-//! Writes the generated scripts of the monitor into a folder.
+//! Writes the long scripts of the monitor, which are made from seeds, into a folder.
 use std::path::Path;
+use std::process::exit;
 
 fn main() -> std::io::Result<()> {
-    let folder = std::env::args_os().nth(1).unwrap_or_else(|| ".".into());
+    let words: Vec<_> = std::env::args_os().skip(1).collect();
+    if words.len() != 1 {
+        eprintln!("scripts: expected the folder to write to");
+        exit(2);
+    }
     for (name, text) in host::scripts::all() {
-        std::fs::write(Path::new(&folder).join(name), text)?;
+        std::fs::write(Path::new(&words[0]).join(name), text)?;
     }
     Ok(())
 }
