@@ -1,8 +1,6 @@
 // The calls of the library, each with the memories that it is lent.
 use crate::desk;
 use crate::desk::Desk;
-use crate::dots;
-use crate::forms;
 use crate::say;
 use commands::Command;
 use lent::ByteRead;
@@ -44,14 +42,13 @@ fn say_stored(answer: Stored) {
     say::text(b"\n");
 }
 
-fn store(
+pub fn store(
     desk: Desk,
+    command: Command,
     shared: &mut [u8],
     screen: &mut [u8],
     attribute: &mut [u8],
     picture: &mut [u8],
-    address: u32,
-    byte: u8,
 ) {
     let lent = desk.lent;
     let a = desk::cut(lent.shared, shared);
@@ -64,18 +61,17 @@ fn store(
         &mut screen[0..b],
         &mut attribute[0..c],
         &mut picture[0..d],
-        address,
-        byte,
+        address(command.first),
+        byte(command.second),
     ));
 }
 
-fn store_blind(
+pub fn store_blind(
     desk: Desk,
+    command: Command,
     shared: &mut [u8],
     screen: &mut [u8],
     attribute: &mut [u8],
-    address: u32,
-    byte: u8,
 ) {
     let lent = desk.lent;
     let a = desk::cut(lent.shared, shared);
@@ -87,21 +83,28 @@ fn store_blind(
             &mut shared[0..a],
             &mut screen[0..b],
             &mut attribute[0..c],
-            address,
-            byte,
+            address(command.first),
+            byte(command.second),
         ),
     );
 }
 
-fn read(desk: Desk, shared: &[u8], screen: &[u8], attribute: &[u8], address: u32) {
+pub fn read(desk: Desk, command: Command, shared: &[u8], screen: &[u8], attribute: &[u8]) {
     let lent = desk.lent;
     let a = desk::cut(lent.shared, shared);
     let b = desk::cut(lent.screen, screen);
     let c = desk::cut(lent.attribute, attribute);
-    say_read(memories::read_8088(&shared[0..a], &screen[0..b], &attribute[0..c], address));
+    say_read(memories::read_8088(
+        &shared[0..a],
+        &screen[0..b],
+        &attribute[0..c],
+        address(command.first),
+    ));
 }
 
-fn store_z80(desk: Desk, private: &mut [u8], shared: &mut [u8], address: u16, byte: u8) {
+pub fn store_z80(desk: Desk, command: Command, private: &mut [u8], shared: &mut [u8]) {
+    let address = word(command.first);
+    let byte = byte(command.second);
     let lent = desk.lent;
     let a = desk::cut(lent.private, private);
     let b = desk::cut(lent.shared, shared);
@@ -111,14 +114,17 @@ fn store_z80(desk: Desk, private: &mut [u8], shared: &mut [u8], address: u16, by
     );
 }
 
-fn read_z80(desk: Desk, private: &[u8], shared: &[u8], address: u16) {
+pub fn read_z80(desk: Desk, command: Command, private: &[u8], shared: &[u8]) {
+    let address = word(command.first);
     let lent = desk.lent;
     let a = desk::cut(lent.private, private);
     let b = desk::cut(lent.shared, shared);
     say_read(memories::read_z80(&private[0..a], &shared[0..b], address));
 }
 
-fn port(desk: Desk, shadow: &mut [u8], nvm: &mut [u8], port: u16, code: u8) -> Desk {
+pub fn port(desk: Desk, command: Command, shadow: &mut [u8], nvm: &mut [u8]) -> Desk {
+    let port = word(command.first);
+    let code = byte(command.second);
     let lent = desk.lent;
     let a = desk::cut(lent.shadow, shadow);
     let b = desk::cut(lent.nvm, nvm);
@@ -131,13 +137,15 @@ fn port(desk: Desk, shadow: &mut [u8], nvm: &mut [u8], port: u16, code: u8) -> D
     desk::with_machine(desk, written.machine)
 }
 
-fn tick(desk: Desk) -> Desk {
+pub fn tick(desk: Desk) -> Desk {
     let ticked = desk.machine.vertical_tick();
     say::machine(b"ticked: ", ticked);
     desk::with_machine(desk, ticked)
 }
 
-fn write_shadow(desk: Desk, shadow: &mut [u8], place: usize, value: u8) {
+pub fn write_shadow(desk: Desk, command: Command, shadow: &mut [u8]) {
+    let place = command.first;
+    let value = byte(command.second);
     let lent = desk.lent;
     let a = desk::cut(lent.shadow, shadow);
     say::done(
@@ -146,13 +154,13 @@ fn write_shadow(desk: Desk, shadow: &mut [u8], place: usize, value: u8) {
     );
 }
 
-fn read_shadow(desk: Desk, shadow: &[u8], place: usize) {
+pub fn read_shadow(desk: Desk, command: Command, shadow: &[u8]) {
     let lent = desk.lent;
     let a = desk::cut(lent.shadow, shadow);
-    say_read(shadow::read_shadow(&shadow[0..a], place));
+    say_read(shadow::read_shadow(&shadow[0..a], command.first));
 }
 
-fn draw(desk: Desk, screen: &[u8], attribute: &[u8], picture: &mut [u8]) {
+pub fn draw(desk: Desk, screen: &[u8], attribute: &[u8], picture: &mut [u8]) {
     let lent = desk.lent;
     let a = desk::cut(lent.screen, screen);
     let b = desk::cut(lent.attribute, attribute);
@@ -169,40 +177,4 @@ fn draw(desk: Desk, screen: &[u8], attribute: &[u8], picture: &mut [u8]) {
     }
     say::number(b"drawn, bytes read: ", answer.reads as usize);
     say::text(b"\n");
-}
-
-pub fn obey(
-    desk: Desk,
-    command: Command,
-    shared: &mut [u8; desk::SHARED],
-    private: &mut [u8; desk::PRIVATE],
-    screen: &mut [u8; desk::SCREEN],
-    attribute: &mut [u8; desk::ATTRIBUTE],
-    glyphs: &mut [u8; desk::GLYPHS],
-    nvm: &mut [u8; desk::NVM],
-    shadow: &mut [u8; desk::SHADOW],
-    picture: &mut [u8; desk::PICTURE],
-    line: &mut [u8; desk::LINE],
-) -> Desk {
-    let form = command.form;
-    let place = command.first;
-    let code = byte(place);
-    let word = word(place);
-    let address = address(place);
-    let byte = byte(command.second);
-    match form {
-        forms::STORE => store(desk, shared, screen, attribute, picture, address, byte),
-        forms::BLIND => store_blind(desk, shared, screen, attribute, address, byte),
-        forms::READ => read(desk, shared, screen, attribute, address),
-        forms::Z80_STORE => store_z80(desk, private, shared, word, byte),
-        forms::Z80_READ => read_z80(desk, private, shared, word),
-        forms::PORT => return port(desk, shadow, nvm, word, byte),
-        forms::TICK => return tick(desk),
-        forms::SHADOW_WRITE => write_shadow(desk, shadow, place, byte),
-        forms::SHADOW_READ => read_shadow(desk, shadow, place),
-        forms::DRAW => draw(desk, screen, attribute, picture),
-        forms::LINE => dots::draw(desk, picture, glyphs, place, command.second, line),
-        _ => dots::part(desk, glyphs, code),
-    }
-    desk
 }

@@ -1,8 +1,10 @@
 // The scan line and the glyph part, shown.
+use crate::calls;
 use crate::desk;
 use crate::desk::Desk;
 use crate::rows;
 use crate::say;
+use commands::Command;
 
 // A dot's shade as a character: a point for an unlit one.
 fn shown(dot: u8) -> u8 {
@@ -15,7 +17,7 @@ fn shown(dot: u8) -> u8 {
     }
 }
 
-pub fn draw(desk: Desk, picture: &[u8], table: &[u8], row: usize, scan: usize, line: &mut [u8]) {
+pub fn draw(desk: Desk, command: Command, picture: &[u8], table: &[u8], line: &mut [u8]) {
     let lent = desk.lent;
     let a = desk::cut(lent.picture, picture);
     let b = desk::cut(lent.glyphs, table);
@@ -24,8 +26,8 @@ pub fn draw(desk: Desk, picture: &[u8], table: &[u8], row: usize, scan: usize, l
         desk.machine,
         &picture[0..a],
         &table[0..b],
-        row,
-        scan,
+        command.first,
+        command.second,
         &mut line[0..c],
     );
     if refusal != lent::ACCEPTED {
@@ -47,10 +49,10 @@ fn show(line: &[u8], dots: usize) {
     }
 }
 
-pub fn part(desk: Desk, table: &[u8], code: u8) {
+pub fn part(desk: Desk, command: Command, table: &[u8]) {
     let lent = desk.lent;
     let a = desk::cut(lent.glyphs, table);
-    let part = glyphs::part(&table[0..a], code);
+    let part = glyphs::part(&table[0..a], calls::byte(command.first));
     let refusal = glyphs::refusal(part);
     if refusal != lent::ACCEPTED {
         say::refused(refusal);

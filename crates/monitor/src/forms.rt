@@ -1,4 +1,5 @@
 // The forms of the lines. H stands for a hexadecimal digit, D for a decimal one, NAME for a memory.
+use crate::input;
 use crate::say;
 use commands::Command;
 
@@ -27,7 +28,6 @@ pub const LINE: usize = 10;
 
 pub const GLYPH: usize = 11;
 
-pub const CALLS: usize = 12;
 // What is done by hand, or only shown.
 pub const POWER: usize = 12;
 
@@ -118,8 +118,11 @@ fn shown_if_meant(form: usize, text: &[u8]) -> bool {
     meant
 }
 
-// Tells what was expected: the forms that begin with the line's first word.
+// Tells what was expected: the forms that begin with the line's first word. Of a line with no words nothing is.
 pub fn expected(text: &[u8]) {
+    if input::is_blank(text) {
+        return;
+    }
     let mut meant = false;
     for form in 0..FORMS {
         meant = meant | shown_if_meant(form, text);

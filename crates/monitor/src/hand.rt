@@ -3,8 +3,6 @@ use crate::calls;
 use crate::desk;
 use crate::desk::Desk;
 use crate::forms;
-use crate::input;
-use crate::rows;
 use crate::say;
 use crate::strewn;
 use commands::Command;
@@ -63,7 +61,7 @@ fn lend(desk: Desk, command: Command, has: usize) -> Desk {
 }
 
 // The lines that name a memory.
-fn named(
+pub fn named(
     desk: Desk,
     command: Command,
     shared: &mut [u8; desk::SHARED],
@@ -90,7 +88,7 @@ fn named(
     }
 }
 
-fn sums(
+pub fn sums(
     shared: &[u8; desk::SHARED],
     private: &[u8; desk::PRIVATE],
     screen: &[u8; desk::SCREEN],
@@ -113,63 +111,8 @@ fn sums(
     say::text(b"\n");
 }
 
-pub fn obey(
-    desk: Desk,
-    command: Command,
-    text: &[u8],
-    shared: &mut [u8; desk::SHARED],
-    private: &mut [u8; desk::PRIVATE],
-    screen: &mut [u8; desk::SCREEN],
-    attribute: &mut [u8; desk::ATTRIBUTE],
-    glyphs: &mut [u8; desk::GLYPHS],
-    nvm: &mut [u8; desk::NVM],
-    shadow: &mut [u8; desk::SHADOW],
-    picture: &mut [u8; desk::PICTURE],
-    line: &mut [u8; desk::LINE],
-) -> Desk {
-    let form = command.form;
-    if form >= forms::FORMS {
-        if !input::is_blank(text) {
-            forms::expected(text);
-        }
-        return desk;
-    }
-    match form {
-        forms::POWER => {
-            let up = desk::power_up();
-            say::machine(b"power-up: ", up.machine);
-            return up;
-        }
-        forms::MACHINE => say::machine(b"machine: ", desk.machine),
-        forms::ROWS => rows::list(picture),
-        forms::TEXT => rows::show(picture, desk.machine.columns()),
-        forms::SUMS => sums(
-            shared,
-            private,
-            screen,
-            attribute,
-            glyphs,
-            nvm,
-            shadow,
-            picture,
-            line,
-        ),
-        forms::HELP => forms::help(),
-        _ => {
-            return named(
-                desk,
-                command,
-                shared,
-                private,
-                screen,
-                attribute,
-                glyphs,
-                nvm,
-                shadow,
-                picture,
-                line,
-            );
-        }
-    }
-    desk
+pub fn power() -> Desk {
+    let up = desk::power_up();
+    say::machine(b"power-up: ", up.machine);
+    up
 }

@@ -137,11 +137,25 @@ fn turn(
         return desk;
     }
     let command = forms::parse(text);
-    if command.form >= forms::CALLS {
-        return hand::obey(
-            desk,
-            command,
-            text,
+    let form = command.form;
+    match form {
+        forms::STORE => calls::store(desk, command, shared, screen, attribute, picture),
+        forms::BLIND => calls::store_blind(desk, command, shared, screen, attribute),
+        forms::READ => calls::read(desk, command, shared, screen, attribute),
+        forms::Z80_STORE => calls::store_z80(desk, command, private, shared),
+        forms::Z80_READ => calls::read_z80(desk, command, private, shared),
+        forms::PORT => return calls::port(desk, command, shadow, nvm),
+        forms::TICK => return calls::tick(desk),
+        forms::SHADOW_WRITE => calls::write_shadow(desk, command, shadow),
+        forms::SHADOW_READ => calls::read_shadow(desk, command, shadow),
+        forms::DRAW => calls::draw(desk, screen, attribute, picture),
+        forms::LINE => dots::draw(desk, command, picture, glyphs, line),
+        forms::GLYPH => dots::part(desk, command, glyphs),
+        forms::POWER => return hand::power(),
+        forms::MACHINE => say::machine(b"machine: ", desk.machine),
+        forms::ROWS => rows::list(picture),
+        forms::TEXT => rows::show(picture, desk.machine.columns()),
+        forms::SUMS => hand::sums(
             shared,
             private,
             screen,
@@ -151,19 +165,24 @@ fn turn(
             shadow,
             picture,
             line,
-        );
+        ),
+        forms::HELP => forms::help(),
+        forms::LEND..=forms::STREW => {
+            return hand::named(
+                desk,
+                command,
+                shared,
+                private,
+                screen,
+                attribute,
+                glyphs,
+                nvm,
+                shadow,
+                picture,
+                line,
+            );
+        }
+        _ => forms::expected(text),
     }
-    calls::obey(
-        desk,
-        command,
-        shared,
-        private,
-        screen,
-        attribute,
-        glyphs,
-        nvm,
-        shadow,
-        picture,
-        line,
-    )
+    desk
 }

@@ -9,6 +9,12 @@ Inv-loop text meant₀ form₀ t4 meant form = form ≤ 23
 abbrev μ-loop : tie.MeasureT-loop
 μ-loop text meant₀ form₀ t4 meant form = 23 - form
 
+is-blank-requires : tie.Need-is-blank-requires Inv-loop μ-loop
+is-blank-requires c κs = search needs
+
+returns : tie.Need-returns Inv-loop μ-loop
+returns c = search needs
+
 loop-holds : tie.Need-loop-holds Inv-loop μ-loop
 loop-holds c = search needs
 
@@ -30,11 +36,11 @@ slice-aggregate-line c = search needs
 line-requires : tie.Need-line-requires Inv-loop μ-loop
 line-requires c κs = search needs
 
-returns : tie.Need-returns Inv-loop μ-loop
-returns c = search needs
-
 returns-2 : tie.Need-returns-2 Inv-loop μ-loop
 returns-2 c = search needs
+
+returns-3 : tie.Need-returns-3 Inv-loop μ-loop
+returns-3 c = search needs
 
 pub expected-spec : {M : Type 1} → statement M
 expected-spec =
@@ -42,6 +48,8 @@ expected-spec =
     (tie.spec
     Inv-loop
     μ-loop
+    is-blank-requires
+    returns
     loop-holds
     shown-if-meant-requires
     add-form
@@ -49,5 +57,5 @@ expected-spec =
     loop-again
     slice-aggregate-line
     line-requires
-    returns
-    returns-2)
+    returns-2
+    returns-3)
