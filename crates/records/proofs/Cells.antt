@@ -67,6 +67,27 @@ module _
             subst (λ (n : ℕ). take (2 * n) (pairsOf drawn) ≡ cellPairs screen attribute start n) last (p .written);
       }
 
+-- the next two bytes are read, and neither is FF
+pub two-passed :
+    {screen attribute : List ℕ} {start capacity : ℕ} {drawn : List ℕ} {cell first second beside other : ℕ}
+    → Passed screen attribute start capacity drawn cell → capacity ≤ recordPairs → cell + 2 ≤ capacity
+    → first ≡ byteAt screen (start + cell) → second ≡ byteAt screen (start + cell + 1)
+    → beside ≡ byteAt attribute (start + cell) → other ≡ byteAt attribute (start + cell + 1)
+    → (first ≡ 0xFF → ⊥) → (second ≡ 0xFF → ⊥)
+    → let at = headBytes + 2 * cell in
+    let once = set (set drawn at first) (at + 1) (beside % 16) in
+    Passed screen attribute start capacity (set (set once (at + 2) second) (at + 3) (other % 16)) (cell + 2)
+two-passed {screen} {attribute} {start} {capacity} {drawn} {cell} {first} {second} {beside} {other} p fits more read read′ seen seen′ no-end no-end′ =
+    let on : (memory : List ℕ) → byteAt memory (start + cell + 1) ≡ byteAt memory (start + (cell + 1)) =
+    λ (memory : List ℕ). ap (byteAt memory) (omega arith) in
+    let one = one-passed p read seen fits (omega arith) no-end in
+    let two = one-passed one (read′ ∙ on screen) (seen′ ∙ on attribute) fits (omega arith) no-end′ in
+    let once = set (set drawn (headBytes + 2 * cell) first) (headBytes + 2 * cell + 1) (beside % 16) in
+    let at : headBytes + 2 * (cell + 1) ≡ headBytes + 2 * cell + 2 = omega arith in
+    let next : headBytes + 2 * cell + 2 + 1 ≡ headBytes + 2 * cell + 3 = omega arith in
+    let cells : cell + 1 + 1 ≡ cell + 2 = omega arith in
+    rw (at, next, cells) at two
+
 -- the pairs after the cells, written up to `pair`
 pub record Filled (before : List ℕ) (cells : ℕ) (drawn : List ℕ) (pair : ℕ) : Type 0 where
   pub after : cells ≤ pair

@@ -33,8 +33,8 @@ pub struct Walked {
     pub next: Ahead,
 }
 
-// Passes cells of a row up to its terminator, or to the end of memory: most rows end ahead of it, and
-// for their places there is no modulo.
+// Passes cells of a row, two at a time, while neither is its terminator and both are ahead of the end of
+// memory: most rows end ahead of it, and for their places there is no modulo.
 fn draw_straight(
     screen: &[u8],
     attribute: &[u8],
@@ -50,16 +50,22 @@ fn draw_straight(
 {
     let room = chain::before_the_end(start, capacity);
     let mut cell = 0;
-    while cell < room {
+    while cell + 2 <= room {
         let place = start + cell;
-        let character = screen[place];
-        if character == chain::TERMINATOR {
+        let first = screen[place];
+        if first == chain::TERMINATOR {
+            return cell;
+        }
+        let second = screen[place + 1];
+        if second == chain::TERMINATOR {
             return cell;
         }
         let at = HEAD_BYTES + 2 * cell;
-        into[at] = character;
+        into[at] = first;
         into[at + 1] = attribute[place] % 16;
-        cell += 1;
+        into[at + 2] = second;
+        into[at + 3] = attribute[place + 1] % 16;
+        cell += 2;
     }
     cell
 }
