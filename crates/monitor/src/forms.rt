@@ -77,7 +77,7 @@ const FORM_TEXTS: [u8; 736] = *b"store HHHHHHHH HH               \
     bytes NAME DDDDD DDDDD          \
     strew NAME DDDDD DDDDD DDDDD    ";
 
-// The memories, in the order of document 01's list but for the glyph table.
+// The memories, in the order of document 01's list.
 const NAMES: [u8; 144] = *b"shared          \
     private         \
     screen          \

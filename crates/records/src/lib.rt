@@ -70,8 +70,8 @@ fn draw_straight(
     cell
 }
 
-// Finds the terminator. The search writes the pair of each byte that it passes, so that each cell is
-// read once.
+// Finds the terminator. The search writes the pair of each byte that it passes, so that there is no second
+// walk over the cells.
 fn draw_to_terminator(
     screen: &[u8],
     attribute: &[u8],
