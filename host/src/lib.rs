@@ -10,6 +10,7 @@ pub mod machine;
 pub mod memories;
 pub mod mending;
 pub mod monitor;
+pub mod mutants;
 #[cfg(feature = "linked")]
 pub mod rainbow;
 pub mod sample;

@@ -6,7 +6,7 @@ use native.Mathlib.Numerals.{add-one}
 use native.Mathlib.Omega.{arith}
 use lib.ListN.{length, take, getD, set, length-append, length-set}
 use lib.Seq.{sets, take-suc, take-all}
-use Rattle.ascii.specs.Put.{Put}
+use Rattle.ascii.specs.Inner.{Put}
 
 sets-append : (a b l : List ℕ) (i : ℕ) → sets l i (a ++ b) ≡ sets (sets l i a) (i + length a) b
 sets-append [] b l i = ap (λ (n : ℕ). sets l n b) (omega arith)

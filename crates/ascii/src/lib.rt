@@ -4,7 +4,7 @@ ghost use mathlib.Core.Path.{_≡_};
 ghost use mathlib.Core.List.{_∷_, []};
 ghost use lib.ListN.{length};
 ghost use Rattle.ascii.specs.Numbers.{digit, reached, decimal, hex};
-ghost use Rattle.ascii.specs.Put.{Put};
+ghost use Rattle.ascii.specs.Inner.{Put};
 
 fn digit(n: u8) -> u8
     requires { ⌜ n < 16 ⌝ }

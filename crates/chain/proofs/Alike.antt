@@ -9,7 +9,7 @@ use lib.ListN.{getD}
 use lib.Dec.{eqb}
 use Rattle.chain.specs.Chain.{Chain, places, byteAt, capacity, firstFF, terminator, ended, link, rowFrom, rowAt}
 use Rattle.chain.specs.Reading.{from, screenRead, attributeRead}
-use Rattle.chain.specs.Ahead.{rowAhead, aheadAfter, aheadOf}
+use Rattle.chain.specs.Inner.{rowAhead, aheadAfter, aheadOf}
 use Rattle.chain.specs.Alike.{bytesAt, ReadAlike, RowIsWhatItReads, RowsAreWhatTheyRead}
 use Rattle.chain.specs.declared.Head.{Head}
 use Rattle.chain.specs.declared.Terminator.{Terminator}

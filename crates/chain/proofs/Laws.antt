@@ -9,7 +9,7 @@ use lib.ListN.{getD}
 use lib.Dec.{eqb}
 use borrow.Author.Tests.{eq-eqb, ne-eqb}
 use Rattle.chain.specs.Chain.{Chain, places, Row as ARow, Whole, Torn, Dark as DarkRow, byteAt, wide, capacity, firstFF, terminator, link, ended, rowFrom, next, rowAt}
-use Rattle.chain.specs.Ahead.{rowAhead, aheadAfter, aheadOf, Placed}
+use Rattle.chain.specs.Inner.{rowAhead, aheadAfter, aheadOf, Placed}
 use Rattle.chain.specs.declared.Head.{Head}
 use Rattle.chain.specs.declared.Terminator.{Terminator}
 use Rattle.chain.specs.declared.Terminator.the-variants.{After, Missing}

@@ -11,7 +11,7 @@ use lib.Dec.{eqb}
 use borrow.Author.Tests.{eq-eqb}
 use borrow.Rule.Slice.PartMut.{midOf, mid-len}
 use Rattle.chain.specs.Chain.{places, byteAt, firstFF}
-use Rattle.chain.specs.Searching.{hasFF, Sought}
+use Rattle.chain.specs.Inner.{hasFF, Sought}
 use Rattle.chain.specs.declared.Terminator.the-variants.{After, Missing}
 use Rattle.chain.proofs.Laws.{straight, search-ends, search-goes-on, search-fails}
 

@@ -5,7 +5,7 @@ use mathlib.Core.Path.{_≡_}
 use mathlib.Core.List.{List, map}
 use Rattle.chain.specs.Chain.{Chain, Row, byteAt, rowFrom, rowAt}
 use Rattle.chain.specs.Reading.{screenRead, attributeRead}
-use Rattle.chain.specs.Ahead.{aheadAfter, aheadOf}
+use Rattle.chain.specs.Inner.{aheadAfter, aheadOf}
 use Rattle.chain.specs.declared.Head.{Head}
 
 -- the bytes of a memory at these places

@@ -1,5 +1,4 @@
 pub mod Chain
 pub mod Reading
-pub mod Ahead
 pub mod Alike
-pub mod Searching
+pub mod Inner

@@ -4,7 +4,7 @@ ghost use Prim.Native.Nat.{_+_, _≤_, _<_};
 ghost use mathlib.Core.Path.{_≡_};
 ghost use lib.ListN.{length};
 ghost use Rattle.lent.specs.Lengths.{screenBytes, attributeBytes};
-ghost use Rattle.chain.specs.Searching.{hasFF, Sought};
+ghost use Rattle.chain.specs.Inner.{hasFF, Sought};
 ghost use Rattle.chain.specs.Chain.{places, byteAt, wide, capacity, first, firstFF, link};
 
 // There are always so many rows.

@@ -8,7 +8,8 @@ use native.Mathlib.Nat.{sub-zero}
 use native.Mathlib.Omega.{arith}
 use lib.ListN.{length, getD, take, drop, drop-of-length-le, length-drop}
 use lib.Seq.{drop-cons, take-all}
-use Rattle.commands.specs.Words.{blank, run, wordsFrom, words, firstWord, unblanked}
+use Rattle.commands.specs.Words.{blank, run, wordsFrom, words, firstWord}
+use Rattle.commands.specs.Inner.{unblanked}
 
 -- what is left of a list is a byte and what is left after it
 pub next : (l : List ℕ) (at : ℕ) → at < length l → drop at l ≡ getD l at 0 ∷ drop (at + 1) l

@@ -3,3 +3,4 @@ pub mod Slots
 pub mod Meanings
 pub mod Commands
 pub mod Cases
+pub mod Inner

@@ -27,11 +27,6 @@ words line = wordsFrom false line
 abbrev pub firstWord : (line : List ℕ) → List ℕ
 firstWord line = getD (words line) 0 []
 
--- the line without the blanks that it begins with
-unfoldable pub unblanked : (line : List ℕ) → List ℕ
-unblanked [] = []
-unblanked (byte ∷ line) = cond (blank byte) (unblanked line) (byte ∷ line)
-
 -- whether two words are the same bytes
 unfoldable pub same : (a b : List ℕ) → Bool
 same [] [] = true

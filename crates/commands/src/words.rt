@@ -1,7 +1,8 @@
 // The words of a line: the longest runs of bytes that are no blanks.
 ghost use mathlib.Core.Path.{_≡_};
 ghost use lib.ListN.{length, drop};
-ghost use Rattle.commands.specs.Words.{blank, run, words, firstWord, unblanked, same};
+ghost use Rattle.commands.specs.Words.{blank, run, words, firstWord, same};
+ghost use Rattle.commands.specs.Inner.{unblanked};
 
 fn is_blank(byte: u8) -> bool
     ensures { λ r. ⌜ r ≡ blank byte ⌝ }

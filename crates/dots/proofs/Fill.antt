@@ -7,7 +7,7 @@ use native.Mathlib.Omega.{arith}
 use lib.ListN.{length, take, set, length-set}
 use lib.Seq.{take-suc-set, take-all}
 use Rattle.dots.specs.Cell.{glyphDots, twice, narrowWidth, wideWidth}
-use Rattle.dots.specs.Shades.{shaded, bitShaded, eightDots}
+use Rattle.dots.specs.Inner.{shaded, bitShaded, eightDots}
 
 -- a dot at the last place
 last-set : (into : List ℕ) (n dot : ℕ) → length into ≡ suc n → set into n dot ≡ take n into ++ (dot ∷ [])

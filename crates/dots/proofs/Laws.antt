@@ -9,7 +9,7 @@ use Rattle.machine.specs.Settings.{bit}
 use Rattle.machine.specs.declared.Machine.{Machine}
 use Rattle.dots.specs.Attributes.{isBold, xor, steady, shade}
 use Rattle.dots.specs.Cell.{narrowWidth, wideWidth}
-use Rattle.dots.specs.Shades.{shaded}
+use Rattle.dots.specs.Inner.{shaded}
 
 -- two shades make every dot of a cell
 pub two-shades :

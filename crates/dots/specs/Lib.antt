@@ -1,3 +1,3 @@
 pub mod Attributes
 pub mod Cell
-pub mod Shades
+pub mod Inner

@@ -6,7 +6,7 @@ ghost use mathlib.Core.List.{map};
 ghost use lib.ListN.{length, take};
 ghost use Rattle.dots.specs.Attributes.{lit, steady, intensity, shade};
 ghost use Rattle.dots.specs.Cell.{glyphDots, twice, cellDots, cellWidth, narrowWidth, wideWidth};
-ghost use Rattle.dots.specs.Shades.{shaded, bitShaded, eightDots};
+ghost use Rattle.dots.specs.Inner.{shaded, bitShaded, eightDots};
 use machine::Machine;
 
 // The scan of a glyph that underline lights.

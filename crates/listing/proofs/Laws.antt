@@ -7,7 +7,7 @@ use lib.ListN.{length}
 use Rattle.machine.specs.Power.{powerUp}
 use Rattle.machine.specs.Settings.{columns}
 use Rattle.picture.specs.Draw.{DrawnPicture}
-use Rattle.ascii.specs.Put.{Put}
+use Rattle.ascii.specs.Inner.{Put}
 use Rattle.listing.specs.Listing.{textOf, drawing, listed, listRows}
 
 -- the text of what was read, put from the start

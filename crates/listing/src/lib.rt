@@ -6,7 +6,7 @@ ghost use lib.ListN.{length, take};
 ghost use Rattle.lent.specs.Lengths.{pictureBytes};
 ghost use Rattle.chain.specs.Chain.{rows};
 ghost use Rattle.picture.specs.Draw.{drawn as drawnPicture};
-ghost use Rattle.ascii.specs.Put.{Put};
+ghost use Rattle.ascii.specs.Inner.{Put};
 ghost use Rattle.listing.specs.Listing.{headingMost, lineMost, textBytes, heading, counted, rowAndStart, line, lineOf, linesTo, refusedText, textOf, drawing, listed, listRows};
 use ascii::put;
 use ascii::put_byte;

@@ -24,7 +24,7 @@ use Rattle.picture.specs.Draw.{chainOf}
 use Rattle.picture.proofs.Records.{same-records, own-records}
 use Rattle.marks.proofs.Laws.{none-marked}
 use Rattle.readers.specs.Readers.{firstReader}
-use Rattle.readers.specs.Passed.{InMemory, Comes, Found}
+use Rattle.readers.specs.Inner.{InMemory, Comes, Found}
 use Rattle.readers.specs.Stored.{chainStored}
 use Rattle.readers.specs.declared.Reader.{Reader}
 use Rattle.readers.proofs.Readers.{none-off-screen, is-first}

@@ -12,18 +12,18 @@ use borrow.Author.Tests.{lt-ltb, le-ltb}
 use borrow.Rule.Slice.PartMut.{midOf, putMid}
 use Rattle.lent.specs.Lengths.{pictureBytes}
 use Rattle.chain.specs.Chain.{Chain, rows, rowAt}
-use Rattle.chain.specs.Ahead.{rowAhead, aheadOf}
+use Rattle.chain.specs.Inner.{rowAhead, aheadOf}
 use Rattle.chain.specs.declared.Ahead.{Ahead}
 use Rattle.chain.proofs.Laws.{ahead-leads}
 use Rattle.records.specs.Record.{recordBytes, recordPairs}
-use Rattle.records.specs.Walked.{drawnAhead}
+use Rattle.records.specs.Inner.{drawnAhead}
 use Rattle.picture.specs.Picture.{inOrder, recordAt, recordIn}
 use Rattle.picture.proofs.Records.{same-records, own-records, record-back, record-put, record-left}
 use Rattle.marks.specs.Marks.{marked, marksTo}
 use Rattle.marks.proofs.Laws.{none-marked}
-use Rattle.readers.specs.Passed.{Comes}
+use Rattle.readers.specs.Inner.{Comes}
 use Rattle.mending.specs.Mending.{mendedRecord, mended, changed, marksOf}
-use Rattle.mending.specs.Rows.{rowMended}
+use Rattle.mending.specs.Inner.{rowMended}
 use Rattle.mending.specs.declared.RowMended.{RowMended}
 use Rattle.mending.proofs.Laws.{record-of, unmarked}
 

@@ -1,5 +1,5 @@
 pub mod Mending
 pub mod Store
-pub mod Rows
 pub mod Changes
 pub mod True
+pub mod Inner

@@ -2,12 +2,12 @@
 // keeps from power-up. It reads the files that its arguments name, one after the other, or standard input.
 mod calls;
 mod desk;
-mod dots;
 mod forms;
 mod hand;
 mod input;
 mod rows;
 mod say;
+mod scans;
 mod strewn;
 
 use desk::Desk;
@@ -149,8 +149,8 @@ fn turn(
         forms::SHADOW_WRITE => calls::write_shadow(desk, command, shadow),
         forms::SHADOW_READ => calls::read_shadow(desk, command, shadow),
         forms::DRAW => calls::draw(desk, screen, attribute, picture),
-        forms::LINE => dots::draw(desk, command, picture, glyphs, line),
-        forms::GLYPH => dots::part(desk, command, glyphs),
+        forms::LINE => scans::draw(desk, command, picture, glyphs, line),
+        forms::GLYPH => scans::part(desk, command, glyphs),
         forms::POWER => return hand::power(),
         forms::MACHINE => say::machine(b"machine: ", desk.machine),
         forms::ROWS => rows::list(picture),

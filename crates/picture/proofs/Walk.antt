@@ -10,13 +10,13 @@ use borrow.Rule.Slice.PartMut.{putMid}
 use Rattle.lent.specs.Lengths.{pictureBytes}
 use Rattle.chain.specs.Chain.{Chain, first, rows, rowAt}
 use Rattle.chain.specs.Reading.{reads, readsTo, walkReads, readsAt132}
-use Rattle.chain.specs.Ahead.{rowAhead, aheadOf}
+use Rattle.chain.specs.Inner.{rowAhead, aheadOf}
 use Rattle.chain.specs.declared.Ahead.{Ahead}
 use Rattle.chain.specs.declared.Ahead.the-variants.{Row}
 use Rattle.chain.proofs.Laws.{ahead-leads}
 use Rattle.chain.proofs.Reading.{reads-fit}
 use Rattle.records.specs.Record.{recordBytes, recordPairs}
-use Rattle.records.specs.Walked.{walked, drawnAhead}
+use Rattle.records.specs.Inner.{walked, drawnAhead}
 use Rattle.records.specs.declared.Walked.{Walked}
 use Rattle.picture.specs.Picture.{inOrder, recordAt, pictureOf}
 use Rattle.picture.proofs.Records.{record-back, record-put}

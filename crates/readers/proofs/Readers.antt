@@ -9,7 +9,7 @@ use Rattle.memories.specs.declared.view8088.Seen.{Seen}
 use Rattle.memories.specs.declared.view8088.Seen.the-variants.{Shared, Screen, Attribute, Nowhere}
 use Rattle.chain.specs.Chain.{Chain, Row, rows, rowAt}
 use Rattle.readers.specs.Readers.{rowReads, firstFrom, IsFirst}
-use Rattle.readers.specs.Passed.{onScreen}
+use Rattle.readers.specs.Inner.{onScreen}
 
 module _ (c : Chain) (seen : Seen) where
   off-screen : onScreen seen ≡ false → (row : Row) → rowReads c seen row ≡ false

@@ -6,12 +6,12 @@ use native.Mathlib.Numerals.{add-one}
 use native.Mathlib.Omega.{arith}
 use Rattle.memories.specs.declared.view8088.Seen.{Seen}
 use Rattle.chain.specs.Chain.{Chain, first, rows, rowAt}
-use Rattle.chain.specs.Ahead.{rowAhead, aheadOf}
+use Rattle.chain.specs.Inner.{rowAhead, aheadOf}
 use Rattle.chain.specs.declared.Ahead.{Ahead}
 use Rattle.chain.specs.declared.Ahead.the-variants.{Row}
 use Rattle.chain.proofs.Laws.{ahead-leads}
 use Rattle.readers.specs.Readers.{rowReads, firstFrom, firstReader}
-use Rattle.readers.specs.Passed.{onScreen, passed, Found}
+use Rattle.readers.specs.Inner.{onScreen, passed, Found}
 use Rattle.readers.specs.declared.Passed.{Passed}
 use Rattle.readers.proofs.Readers.{none-off-screen}
 

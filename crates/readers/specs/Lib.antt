@@ -1,3 +1,3 @@
 pub mod Readers
-pub mod Passed
 pub mod Stored
+pub mod Inner

@@ -11,7 +11,7 @@ use Rattle.chain.specs.Chain.{byteAt, firstFF}
 use Rattle.chain.specs.declared.Terminator.the-variants.{After, Missing}
 use Rattle.chain.proofs.Laws.{search-ends, search-goes-on, search-fails}
 use Rattle.records.specs.Record.{recordBytes, headBytes, recordPairs, cellPairs, fillPairs}
-use Rattle.records.specs.Walked.{pairsOf, Passed, Found}
+use Rattle.records.specs.Inner.{pairsOf, Passed, Found}
 use Rattle.records.proofs.Laws.{pair-stored}
 
 pub none-passed :

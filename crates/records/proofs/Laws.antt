@@ -6,7 +6,7 @@ use native.Mathlib.Omega.{arith}
 use lib.ListN.{length, take, set, length-set, length-drop}
 use lib.Seq.{take-suc-set, drop-set-add}
 use Rattle.records.specs.Record.{headBytes}
-use Rattle.records.specs.Walked.{pairsOf}
+use Rattle.records.specs.Inner.{pairsOf}
 
 -- a pair is stored after the pairs before it
 pub pair-stored :

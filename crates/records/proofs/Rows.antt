@@ -11,7 +11,7 @@ use Rattle.chain.specs.declared.Terminator.the-variants.{After, Missing}
 use Rattle.chain.specs.declared.Ahead.the-variants.{Row, Dark}
 use Rattle.chain.proofs.Laws.{found-within, row-found}
 use Rattle.records.specs.Record.{recordPairs, tornCount, recordOf}
-use Rattle.records.specs.Walked.{Found, finished, wholeWalked, walked, drawnAhead}
+use Rattle.records.specs.Inner.{Found, finished, wholeWalked, walked, drawnAhead}
 
 -- the cells of a whole row are no more than a record's pairs
 pub cells-fit :

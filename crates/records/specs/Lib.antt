@@ -1,3 +1,3 @@
 pub mod Record
-pub mod Walked
 pub mod Alike
+pub mod Inner

@@ -3,7 +3,7 @@ use native.Mathlib.Nat.{add-zero}
 use native.Mathlib.Omega.{arith}
 use lib.ListN.{length, take}
 use borrow.Author.Needs.{needs}
-use Rattle.ascii.specs.Put.{Put}
+use Rattle.ascii.specs.Inner.{Put}
 use Rattle.ascii.proofs.Laws.{put-none, one-more, all-put}
 use Rattle.ascii.proofs.put.Statement.{statement}
 use Rattle.ascii.proofs.put.Tie as tie

@@ -1,7 +1,7 @@
 use Prim.Native.Nat.{_+_, _-_}
 use native.Mathlib.Omega.{arith}
 use borrow.Author.Needs.{needs}
-use Rattle.chain.specs.Searching.{Sought}
+use Rattle.chain.specs.Inner.{Sought}
 use Rattle.chain.proofs.Searching.{sought-on, sought-found, sought-missing}
 use Rattle.chain.proofs.find_terminator.Statement.{statement}
 use Rattle.chain.proofs.find_terminator.Tie as tie

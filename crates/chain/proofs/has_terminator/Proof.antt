@@ -6,7 +6,7 @@ use lib.Dec.{eqb}
 use lib.ListN.{length, getD, take}
 use lib.Seq.{take-all}
 use borrow.Author.Needs.{needs}
-use Rattle.chain.specs.Searching.{hasFF}
+use Rattle.chain.specs.Inner.{hasFF}
 use Rattle.chain.proofs.Searching.{has-more}
 use Rattle.chain.proofs.has_terminator.Statement.{statement}
 use Rattle.chain.proofs.has_terminator.Tie as tie

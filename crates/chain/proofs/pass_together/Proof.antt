@@ -2,7 +2,7 @@ use Prim.Native.Nat.{_+_, _-_}
 use mathlib.Core.Path.{sym, _∙_}
 use native.Mathlib.Omega.{arith}
 use borrow.Author.Needs.{needs}
-use Rattle.chain.specs.Searching.{Sought}
+use Rattle.chain.specs.Inner.{Sought}
 use Rattle.chain.proofs.Searching.{none-sought, sought-many, part-has-none}
 use Rattle.chain.proofs.pass_together.Statement.{statement}
 use Rattle.chain.proofs.pass_together.Tie as tie

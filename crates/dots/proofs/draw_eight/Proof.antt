@@ -1,7 +1,7 @@
 use Prim.Native.Nat.{ℕ, _-_}
 use lib.ListN.{length}
 use borrow.Author.Needs.{needs}
-use Rattle.dots.specs.Shades.{bitShaded}
+use Rattle.dots.specs.Inner.{bitShaded}
 use Rattle.dots.proofs.Drawing.{inTurn, once, Drawn, none-drawn, one-drawn, all-drawn}
 use Rattle.dots.proofs.draw_eight.Statement.{statement}
 use Rattle.dots.proofs.draw_eight.Tie as tie

@@ -2,7 +2,7 @@ use Prim.Native.Nat.{ℕ, _-_}
 use lib.ListN.{length, length-set}
 use borrow.Author.Needs.{needs}
 use Rattle.dots.specs.Cell.{twice}
-use Rattle.dots.specs.Shades.{bitShaded}
+use Rattle.dots.specs.Inner.{bitShaded}
 use Rattle.dots.proofs.Drawing.{inTurn, both, Drawn, none-drawn, two-drawn, all-drawn}
 use Rattle.dots.proofs.draw_eight_twice.Statement.{statement}
 use Rattle.dots.proofs.draw_eight_twice.Tie as tie

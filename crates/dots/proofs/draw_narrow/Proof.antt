@@ -4,7 +4,7 @@ use mathlib.Core.List.{List}
 use native.Mathlib.Omega.{arith}
 use lib.ListN.{length, length-set}
 use borrow.Author.Needs.{needs}
-use Rattle.dots.specs.Shades.{eightDots}
+use Rattle.dots.specs.Inner.{eightDots}
 use Rattle.dots.specs.Cell.{narrowWidth}
 use Rattle.dots.proofs.Laws.{narrow-room}
 use Rattle.dots.proofs.Fill.{Eight, narrow-132, narrow-80}

@@ -4,7 +4,7 @@ use mathlib.Core.List.{List}
 use native.Mathlib.Omega.{arith}
 use lib.ListN.{length, length-set}
 use borrow.Author.Needs.{needs}
-use Rattle.dots.specs.Shades.{eightDots}
+use Rattle.dots.specs.Inner.{eightDots}
 use Rattle.dots.specs.Cell.{twice, wideWidth}
 use Rattle.dots.proofs.Laws.{wide-room}
 use Rattle.dots.proofs.Fill.{Eight, wide-132, wide-80}

@@ -4,7 +4,7 @@ use native.Mathlib.Numerals.{add-one}
 use native.Mathlib.Omega.{arith}
 use borrow.Author.Needs.{needs}
 use Rattle.chain.specs.Chain.{rows}
-use Rattle.ascii.specs.Put.{Put}
+use Rattle.ascii.specs.Inner.{Put}
 use Rattle.ascii.proofs.Laws.{_then_, put-none}
 use Rattle.listing.specs.Listing.{lineMost, linesTo}
 use Rattle.listing.proofs.put_rows.Statement.{statement}

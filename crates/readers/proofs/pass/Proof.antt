@@ -1,7 +1,7 @@
 use mathlib.Core.Path.{subst}
 use borrow.Author.Needs.{needs}
 use Rattle.chain.specs.Reading.{screenRead, attributeRead}
-use Rattle.chain.specs.Ahead.{Placed}
+use Rattle.chain.specs.Inner.{Placed}
 use Rattle.readers.proofs.Laws.{none-read}
 use Rattle.readers.proofs.pass.Statement.{statement}
 use Rattle.readers.proofs.pass.Tie as tie

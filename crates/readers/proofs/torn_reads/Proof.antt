@@ -1,7 +1,7 @@
 use mathlib.Core.Path.{subst}
 use native.Mathlib.Omega.{arith}
 use borrow.Author.Needs.{needs}
-use Rattle.readers.specs.Passed.{InMemory}
+use Rattle.readers.specs.Inner.{InMemory}
 use Rattle.readers.proofs.torn_reads.Statement.{statement}
 use Rattle.readers.proofs.torn_reads.Tie as tie
 

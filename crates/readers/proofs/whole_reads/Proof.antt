@@ -2,7 +2,7 @@ use mathlib.Core.Path.{subst}
 use native.Mathlib.Omega.{arith}
 use native.Mathlib.Nat.{mod-lt}
 use borrow.Author.Needs.{needs}
-use Rattle.readers.specs.Passed.{InMemory}
+use Rattle.readers.specs.Inner.{InMemory}
 use Rattle.readers.proofs.Laws.{among-both, from-over}
 use Rattle.readers.proofs.whole_reads.Statement.{statement}
 use Rattle.readers.proofs.whole_reads.Tie as tie

@@ -3,9 +3,9 @@ use native.Mathlib.Omega.{arith}
 use borrow.Author.Needs.{needs}
 use Rattle.chain.specs.Chain.{chain}
 use Rattle.chain.specs.Reading.{reads}
-use Rattle.chain.specs.Ahead.{Placed}
+use Rattle.chain.specs.Inner.{Placed}
 use Rattle.records.specs.Record.{cellPairs, recordOf}
-use Rattle.records.specs.Walked.{walked, drawnAhead}
+use Rattle.records.specs.Inner.{walked, drawnAhead}
 use Rattle.records.proofs.draw_ahead.Statement.{statement}
 use Rattle.records.proofs.draw_ahead.Tie as tie
 

@@ -4,7 +4,7 @@ use native.Mathlib.Omega.{arith}
 use lib.ListN.{length-set}
 use borrow.Author.Needs.{needs}
 use Rattle.chain.proofs.Laws.{straight}
-use Rattle.records.specs.Walked.{Passed}
+use Rattle.records.specs.Inner.{Passed}
 use Rattle.records.proofs.Cells.{none-passed, two-passed}
 use Rattle.records.proofs.draw_straight.Statement.{statement}
 use Rattle.records.proofs.draw_straight.Tie as tie

@@ -3,7 +3,7 @@ use Prim.Native.Nat.{_-_}
 use native.Mathlib.Omega.{arith}
 use lib.ListN.{length-set}
 use borrow.Author.Needs.{needs}
-use Rattle.records.specs.Walked.{Passed}
+use Rattle.records.specs.Inner.{Passed}
 use Rattle.records.proofs.Cells.{one-passed, found, not-found}
 use Rattle.records.proofs.draw_to_terminator.Statement.{statement}
 use Rattle.records.proofs.draw_to_terminator.Tie as tie

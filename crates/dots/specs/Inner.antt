@@ -1,4 +1,5 @@
--- What the functions that draw a cell promise. A cell shows the lit dots of its glyph in one shade and the unlit ones in another.
+-- No sentence of document 01: what our own functions promise each other. A cell shows the lit dots of its
+-- glyph in one shade and the unlit ones in another.
 use Prim.Native.Nat.{ℕ}
 use mathlib.Core.List.{List, map}
 use mathlib.Core.Bool.{Bool, cond}

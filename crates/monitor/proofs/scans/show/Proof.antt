@@ -2,8 +2,8 @@ use Prim.Native.Nat.{_-_, _≤_}
 use mathlib.Core.Path.{_≡_}
 use lib.ListN.{length}
 use borrow.Author.Needs.{needs}
-use Rattle.monitor.proofs.dots.show.Statement.{statement}
-use Rattle.monitor.proofs.dots.show.Tie as tie
+use Rattle.monitor.proofs.scans.show.Statement.{statement}
+use Rattle.monitor.proofs.scans.show.Tie as tie
 
 abbrev Inv-loop : tie.InvT-loop
 Inv-loop line dots text₀ dot₀ text dot = (dot ≤ 1188) × (length text ≡ 1188)

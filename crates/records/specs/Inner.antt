@@ -1,11 +1,11 @@
--- What the functions that draw one row promise.
+-- No sentence of document 01: what our own functions promise each other. Here those that draw one row.
 use Prim.Native.Nat.{ℕ, _+_, _-_, _*_, _≤_}
 use mathlib.Core.Path.{_≡_}
 use mathlib.Core.List.{List, _++_}
 use lib.ListN.{length, take, drop}
 use Rattle.chain.specs.Chain.{Chain, firstFF, link}
 use Rattle.chain.specs.Reading.{reads}
-use Rattle.chain.specs.Ahead.{rowAhead, aheadAfter}
+use Rattle.chain.specs.Inner.{rowAhead, aheadAfter}
 use Rattle.chain.specs.declared.Head.{Head}
 use Rattle.chain.specs.declared.Terminator.{Terminator}
 use Rattle.chain.specs.declared.Terminator.the-variants.{After, Missing}

@@ -1,4 +1,4 @@
--- What the functions of the walk that draws nothing promise.
+-- No sentence of document 01: what our own functions promise each other. Here those of the walk that draws nothing.
 use Prim.Native.Nat.{_<_}
 use mathlib.Core.Path.{_≡_}
 use mathlib.Core.Bool.{Bool, true, false}
@@ -6,7 +6,7 @@ use Rattle.lent.specs.Lengths.{screenBytes, attributeBytes}
 use Rattle.memories.specs.declared.view8088.Seen.{Seen}
 use Rattle.memories.specs.declared.view8088.Seen.the-variants.{Shared, Screen, Attribute, Nowhere}
 use Rattle.chain.specs.Chain.{Chain, rows}
-use Rattle.chain.specs.Ahead.{rowAhead, aheadAfter, aheadOf}
+use Rattle.chain.specs.Inner.{rowAhead, aheadAfter, aheadOf}
 use Rattle.chain.specs.declared.Ahead.{Ahead}
 use Rattle.readers.specs.Readers.{rowReads, firstReader}
 use Rattle.readers.specs.declared.Passed.{Passed}

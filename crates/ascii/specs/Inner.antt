@@ -1,4 +1,5 @@
--- Text that is put into a lent buffer.
+-- No sentence of document 01: what our own functions promise each other. Here those that put text into a lent
+-- buffer.
 use Prim.Native.Nat.{ℕ, _+_}
 use mathlib.Core.Path.{_≡_}
 use mathlib.Core.List.{List}

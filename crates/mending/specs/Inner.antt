@@ -1,11 +1,11 @@
--- What the function that mends one row promises.
+-- No sentence of document 01: what our own functions promise each other. Here the one that mends one row.
 use Prim.Native.Nat.{ℕ}
 use mathlib.Core.List.{List}
 use mathlib.Core.Bool.{not}
 use Rattle.chain.specs.Chain.{Chain}
-use Rattle.chain.specs.Ahead.{rowAhead, aheadAfter}
+use Rattle.chain.specs.Inner.{rowAhead, aheadAfter}
 use Rattle.chain.specs.declared.Ahead.{Ahead}
-use Rattle.records.specs.Walked.{drawnAhead}
+use Rattle.records.specs.Inner.{drawnAhead}
 use Rattle.mending.specs.Mending.{sameBytes}
 use Rattle.mending.specs.declared.RowMended.{RowMended}
 
