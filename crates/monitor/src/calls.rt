@@ -19,18 +19,27 @@ fn address(n: usize) -> u32 {
     (n % 4294967296) as u32
 }
 
+// A refusal is shown with the number beside it, which has to be 0.
 fn say_read(answer: ByteRead) {
     if answer.refusal != lent::ACCEPTED {
-        say::refused(answer.refusal);
+        say::number(b"refused ", answer.refusal as usize);
+        say::byte(b", byte ", answer.byte);
+        say::because(answer.refusal);
         return;
     }
     say::byte(b"reads ", answer.byte);
     say::text(b"\n");
 }
 
+fn say_not_stored(answer: Stored) {
+    say::number(b"refused ", answer.refusal as usize);
+    say::long(b", marks ", answer.marks);
+    say::because(answer.refusal);
+}
+
 fn say_stored(answer: Stored) {
     if answer.refusal != lent::ACCEPTED {
-        say::refused(answer.refusal);
+        say_not_stored(answer);
         return;
     }
     say::long(b"stored, marks ", answer.marks);
@@ -172,9 +181,19 @@ pub fn draw(desk: Desk, screen: &[u8], attribute: &[u8], picture: &mut [u8]) {
         &mut picture[0..c],
     );
     if answer.refusal != lent::ACCEPTED {
-        say::refused(answer.refusal);
+        say::number(b"refused ", answer.refusal as usize);
+        say::number(b", bytes read ", answer.reads as usize);
+        say::because(answer.refusal);
         return;
     }
     say::number(b"drawn, bytes read: ", answer.reads as usize);
     say::text(b"\n");
+}
+
+pub fn marked(command: Command) {
+    if marks::is_marked(address(command.first), command.second) {
+        say::line(b"marked");
+    } else {
+        say::line(b"not marked");
+    }
 }

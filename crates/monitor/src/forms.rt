@@ -24,36 +24,42 @@ pub const SHADOW_READ: usize = 8;
 
 pub const DRAW: usize = 9;
 
-pub const LINE: usize = 10;
+pub const MARKED: usize = 10;
 
-pub const GLYPH: usize = 11;
+pub const LINE: usize = 11;
+
+pub const GLYPH: usize = 12;
+
+pub const DOTS: usize = 13;
 
 // What is done by hand, or only shown.
-pub const POWER: usize = 12;
+pub const POWER: usize = 14;
 
-pub const MACHINE: usize = 13;
+pub const MACHINE: usize = 15;
 
-pub const ROWS: usize = 14;
+pub const LATCH: usize = 16;
 
-pub const TEXT: usize = 15;
+pub const ROWS: usize = 17;
 
-pub const SUMS: usize = 16;
+pub const TEXT: usize = 18;
 
-pub const HELP: usize = 17;
+pub const SUMS: usize = 19;
 
-pub const LEND: usize = 18;
+pub const HELP: usize = 20;
 
-pub const FILL: usize = 19;
+pub const LEND: usize = 21;
 
-pub const PUT: usize = 20;
+pub const FILL: usize = 22;
 
-pub const BYTES: usize = 21;
+pub const PUT: usize = 23;
 
-pub const STREW: usize = 22;
+pub const BYTES: usize = 24;
 
-pub const FORMS: usize = 23;
+pub const STREW: usize = 25;
 
-const FORM_TEXTS: [u8; 736] = *b"store HHHHHHHH HH               \
+pub const FORMS: usize = 26;
+
+const FORM_TEXTS: [u8; 832] = *b"store HHHHHHHH HH               \
     blind HHHHHHHH HH               \
     read HHHHHHHH                   \
     z80 store HHHH HH               \
@@ -63,10 +69,13 @@ const FORM_TEXTS: [u8; 736] = *b"store HHHHHHHH HH               \
     shadow write DDDDD HH           \
     shadow read DDDDD               \
     draw                            \
+    marked HHHHHHHH DDDDD           \
     line DDDDD DDDDD                \
     glyph HH                        \
+    dots                            \
     power                           \
     machine                         \
+    latch HH                        \
     rows                            \
     text                            \
     sums                            \

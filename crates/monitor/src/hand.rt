@@ -3,6 +3,7 @@ use crate::calls;
 use crate::desk;
 use crate::desk::Desk;
 use crate::forms;
+use crate::rows;
 use crate::say;
 use crate::strewn;
 use commands::Command;
@@ -61,7 +62,7 @@ fn lend(desk: Desk, command: Command, has: usize) -> Desk {
 }
 
 // The lines that name a memory.
-pub fn named(
+fn named(
     desk: Desk,
     command: Command,
     shared: &mut [u8; desk::SHARED],
@@ -88,7 +89,7 @@ pub fn named(
     }
 }
 
-pub fn sums(
+fn sums(
     shared: &[u8; desk::SHARED],
     private: &[u8; desk::PRIVATE],
     screen: &[u8; desk::SCREEN],
@@ -111,8 +112,70 @@ pub fn sums(
     say::text(b"\n");
 }
 
-pub fn power() -> Desk {
+fn power() -> Desk {
     let up = desk::power_up();
     say::machine(b"power-up: ", up.machine);
     up
+}
+
+// A caller may hold any byte in the scroll latch.
+fn latch(desk: Desk, byte: u8) -> Desk {
+    let mut machine = desk.machine;
+    machine.latch = byte;
+    say::machine(b"latched: ", machine);
+    desk::with_machine(desk, machine)
+}
+
+// Obeys a line that is no call.
+pub fn obey(
+    desk: Desk,
+    command: Command,
+    text: &[u8],
+    shared: &mut [u8; desk::SHARED],
+    private: &mut [u8; desk::PRIVATE],
+    screen: &mut [u8; desk::SCREEN],
+    attribute: &mut [u8; desk::ATTRIBUTE],
+    glyphs: &mut [u8; desk::GLYPHS],
+    nvm: &mut [u8; desk::NVM],
+    shadow: &mut [u8; desk::SHADOW],
+    picture: &mut [u8; desk::PICTURE],
+    line: &mut [u8; desk::LINE],
+) -> Desk {
+    let form = command.form;
+    match form {
+        forms::POWER => return power(),
+        forms::MACHINE => say::machine(b"machine: ", desk.machine),
+        forms::LATCH => return latch(desk, calls::byte(command.first)),
+        forms::ROWS => rows::list(picture),
+        forms::TEXT => rows::show(picture, desk.machine.columns()),
+        forms::SUMS => sums(
+            shared,
+            private,
+            screen,
+            attribute,
+            glyphs,
+            nvm,
+            shadow,
+            picture,
+            line,
+        ),
+        forms::HELP => forms::help(),
+        forms::LEND..=forms::STREW => {
+            return named(
+                desk,
+                command,
+                shared,
+                private,
+                screen,
+                attribute,
+                glyphs,
+                nvm,
+                shadow,
+                picture,
+                line,
+            );
+        }
+        _ => forms::expected(text),
+    }
+    desk
 }

@@ -149,28 +149,15 @@ fn turn(
         forms::SHADOW_WRITE => calls::write_shadow(desk, command, shadow),
         forms::SHADOW_READ => calls::read_shadow(desk, command, shadow),
         forms::DRAW => calls::draw(desk, screen, attribute, picture),
+        forms::MARKED => calls::marked(command),
         forms::LINE => scans::draw(desk, command, picture, glyphs, line),
         forms::GLYPH => scans::part(desk, command, glyphs),
-        forms::POWER => return hand::power(),
-        forms::MACHINE => say::machine(b"machine: ", desk.machine),
-        forms::ROWS => rows::list(picture),
-        forms::TEXT => rows::show(picture, desk.machine.columns()),
-        forms::SUMS => hand::sums(
-            shared,
-            private,
-            screen,
-            attribute,
-            glyphs,
-            nvm,
-            shadow,
-            picture,
-            line,
-        ),
-        forms::HELP => forms::help(),
-        forms::LEND..=forms::STREW => {
-            return hand::named(
+        forms::DOTS => scans::count(desk),
+        _ => {
+            return hand::obey(
                 desk,
                 command,
+                text,
                 shared,
                 private,
                 screen,
@@ -182,7 +169,6 @@ fn turn(
                 line,
             );
         }
-        _ => forms::expected(text),
     }
     desk
 }

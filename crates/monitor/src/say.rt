@@ -60,6 +60,11 @@ pub fn bytes(words: &[u8], list: &[u8]) {
 // The number of refusal, with what it says.
 pub fn refused(refusal: u8) {
     number(b"refused ", refusal as usize);
+    because(refusal);
+}
+
+// What a number of refusal says.
+pub fn because(refusal: u8) {
     match refusal {
         lent::LENGTH => line(b": a memory lent at another length than its own"),
         lent::ADDRESS => line(b": the 8088 sees no memory at this address"),

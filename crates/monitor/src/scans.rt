@@ -60,3 +60,8 @@ pub fn part(desk: Desk, command: Command, table: &[u8]) {
     }
     say::bytes(b"part", part);
 }
+
+pub fn count(desk: Desk) {
+    say::number(b"dots of a line: ", scan_line::dots_of_line(desk.machine));
+    say::text(b"\n");
+}

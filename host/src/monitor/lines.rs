@@ -1,7 +1,7 @@
 //! What a line says: docs/MONITOR.md's table of forms, and the words and digits of a line.
 
 /// The forms, in the order that `help` has.
-pub const FORMS: [&str; 23] = [
+pub const FORMS: [&str; 26] = [
     "store HHHHHHHH HH",
     "blind HHHHHHHH HH",
     "read HHHHHHHH",
@@ -12,10 +12,13 @@ pub const FORMS: [&str; 23] = [
     "shadow write DDDDD HH",
     "shadow read DDDDD",
     "draw",
+    "marked HHHHHHHH DDDDD",
     "line DDDDD DDDDD",
     "glyph HH",
+    "dots",
     "power",
     "machine",
+    "latch HH",
     "rows",
     "text",
     "sums",

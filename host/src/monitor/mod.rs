@@ -38,14 +38,19 @@ mod tests {
 
     #[test]
     fn calls_are_answered_in_words() {
-        let lines: [(&str, &str); 7] = [
+        let lines: [(&str, &str); 12] = [
             ("store 5 41", "stored, marks 00000000\n"),
             ("draw", "drawn, bytes read: 81"),
             ("store ee000 fF", "stored, marks 00FFFFFF 0 1 2 3"),
-            ("read 10000", "refused 2: the 8088 sees no memory"),
+            ("read 10000", "refused 2, byte 00: the 8088 sees no memory"),
             ("bytes screen 4095 2", "bytes 00 00\n"),
             ("bytes screen 4096 2", "expected a place, or places"),
             ("lend line 1190", "expected a length up to one more"),
+            ("marked 80000000 31", "marked\n"),
+            ("marked FFFFFFFF 32", "not marked\n"),
+            ("dots", "dots of a line: 800\n"),
+            ("latch 1F", "latched: 80 columns, 60 Hz, interlace 0, latch 1F"),
+            ("port C 4", "written: 80 columns, 60 Hz, interlace 0, latch 03"),
         ];
         let mut session = Session::power_up();
         for (line, begins) in lines {
@@ -57,7 +62,7 @@ mod tests {
     #[test]
     fn a_wrong_length_stays_lent_until_power_up() {
         let text = b"lend shared 65537\nread FFFFFFFF\nz80 read 0\nlend shared 65536\nread 0\nlend screen 0\npower\ndraw\n";
-        let refused = "refused 1: a memory lent at another length than its own";
+        let refused = "refused 1, byte 00: a memory lent at another length than its own";
         let heard = heard(text);
         let lines: Vec<_> = heard.lines().collect();
         assert_eq!(lines[..4], ["lent", refused, refused, "lent"]);

@@ -54,7 +54,7 @@ impl Session {
             Line::Bad(forms) => shown::expected(&forms),
             Line::Call(form, numbers) => self
                 .told(form, &numbers)
-                .unwrap_or_else(|number| vec![shown::refused(number)]),
+                .unwrap_or_else(|number| vec![shown::refused(form, number)]),
         };
         let ended = lines.into_iter().map(|line| line + "\n");
         ended.collect::<String>().into_bytes()
@@ -84,6 +84,7 @@ impl Session {
                 let memories = self.memories.iter();
                 return Ok(shown::sums(memories.map(|memory| &memory.bytes[..])));
             }
+            "dots" => return Ok(format!("dots of a line: {}", self.dots())),
             "tick" => {
                 self.machine.interrupt = true;
                 "ticked"
@@ -134,6 +135,11 @@ impl Session {
             }
             "shadow read DDDDD" => memories::shadow_read(self.lent(SHADOW), place).map(reads),
             "line DDDDD DDDDD" => self.line(place, second),
+            "marked" => Ok(shown::marked(first, second)),
+            "latch" => {
+                self.machine.latch = first as u8;
+                Ok(format!("latched: {}", shown::machine(&self.machine)))
+            }
             _ => {
                 let part = dots::part(self.lent(GLYPHS), first as u8)?;
                 Ok(shown::bytes("part", part))
@@ -171,11 +177,15 @@ impl Session {
         let (picture, glyphs) = (self.lent(PICTURES), self.lent(GLYPHS));
         dots::scan_line(&self.machine, picture, glyphs, row, scan, &mut line)?;
         self.put_back(LINE, &line);
-        let dots = match self.columns() {
+        Ok(shown::dots(&line[..self.dots()]))
+    }
+
+    /// The dots of a line.
+    fn dots(&self) -> usize {
+        match self.columns() {
             80 => 800,
             _ => 1188,
-        };
-        Ok(shown::dots(&line[..dots]))
+        }
     }
 
     fn lent(&self, name: usize) -> &[u8] {

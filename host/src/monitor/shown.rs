@@ -4,7 +4,14 @@ use crate::chain::RECORD;
 use crate::machine::Machine;
 use crate::trial::summed;
 
-pub fn refused(number: u8) -> String {
+/// A refused call of a form. "A refusal returns its number, with byte read, marks, read count and all other numbers 0".
+pub fn refused(form: &str, number: u8) -> String {
+    let beside = match form.split(" H").next().unwrap_or(form) {
+        "read" | "z80 read" | "shadow read DDDDD" => ", byte 00",
+        "store" => ", marks 00000000",
+        "draw" => ", bytes read 0",
+        _ => "",
+    };
     let words = match number {
         1 => "a memory lent at another length than its own",
         2 => "the 8088 sees no memory at this address",
@@ -13,7 +20,7 @@ pub fn refused(number: u8) -> String {
         5 => "no such row, scan or place",
         _ => "bits 6 and 7 both rise",
     };
-    format!("refused {number}: {words}")
+    format!("refused {number}{beside}: {words}")
 }
 
 pub fn machine(m: &Machine) -> String {
@@ -39,6 +46,15 @@ pub fn marks(marks: u32) -> String {
     let rows = (0..32).filter(|row| marks >> row & 1 == 1);
     let rows: String = rows.map(|row| format!(" {row}")).collect();
     format!("stored, marks {marks:08X}{rows}")
+}
+
+/// Whether a number has the bit of a row. It has 32 bits.
+pub fn marked(marks: u32, row: usize) -> String {
+    let word = match marks.checked_shr(row as u32) {
+        Some(bits) if bits & 1 == 1 => "marked",
+        _ => "not marked",
+    };
+    word.to_string()
 }
 
 /// A word and then bytes.

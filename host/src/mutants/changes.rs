@@ -113,12 +113,29 @@ impl<'a> Code<'a> {
         Change { span, new, within }
     }
 
+    /// A token stands in the brackets of a call, and in no others inside of these.
+    fn is_argument(&self, at: usize) -> bool {
+        let mut open = 0;
+        for before in (0..at).rev() {
+            match self.token(before) {
+                ")" | "]" | "}" => open += 1,
+                "(" | "[" | "{" if open > 0 => open -= 1,
+                sign @ ("(" | "[" | "{") => return sign == "(",
+                _ => {}
+            }
+        }
+        false
+    }
+
     /// Two arguments side by side that are each a name.
     fn swapped(&self, at: usize) -> Option<Change> {
         let around = [self.token(at), self.token(at + 2), self.token(at + 4)];
         let names = self.kind(at + 1) == Some(Kind::Word) && self.kind(at + 3) == Some(Kind::Word);
-        let between = |sign: &str| sign == "," || sign == ")";
-        if !names || !["(", ","].contains(&around[0]) || around[1] != "," || !between(around[2]) {
+        let ends = [",", ")"].contains(&around[2]);
+        if !names || !["(", ","].contains(&around[0]) || around[1] != "," || !ends {
+            return None;
+        }
+        if !self.is_argument(at + 1) {
             return None;
         }
         let span = self.tokens[at + 1].span.start..self.tokens[at + 3].span.end;
@@ -188,5 +205,6 @@ mod tests {
         assert_eq!(shown("{\n    f(a, b);\n}"), ["f(a, b); -> ", "a, b -> b, a"]);
         assert_eq!(shown("{\n    m.x = y;\n}"), ["m.x = y; -> "]);
         assert_eq!(shown("fn f(a: u8, b: u8) {}"), Vec::<String>::new());
+        assert_eq!(shown("enum E { A(u8), B, C, D }"), Vec::<String>::new());
     }
 }

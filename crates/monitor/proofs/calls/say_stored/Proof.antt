@@ -9,8 +9,8 @@ Inv-loop answer row₀ t4 t5 row = row ≤ 32
 abbrev μ-loop : tie.MeasureT-loop
 μ-loop answer row₀ t4 t5 row = 32 - row
 
-refused-requires : tie.Need-refused-requires Inv-loop μ-loop
-refused-requires c κs = search needs
+say-not-stored-requires : tie.Need-say-not-stored-requires Inv-loop μ-loop
+say-not-stored-requires c κs = search needs
 
 returns : tie.Need-returns Inv-loop μ-loop
 returns c = search needs
@@ -57,7 +57,7 @@ say-stored-spec =
     (tie.spec
     Inv-loop
     μ-loop
-    refused-requires
+    say-not-stored-requires
     returns
     slice-aggregate-long
     long-requires
