@@ -43,23 +43,25 @@ pub const ROWS: usize = 17;
 
 pub const TEXT: usize = 18;
 
-pub const SUMS: usize = 19;
+pub const LIST: usize = 19;
 
-pub const HELP: usize = 20;
+pub const SUMS: usize = 20;
 
-pub const LEND: usize = 21;
+pub const HELP: usize = 21;
 
-pub const FILL: usize = 22;
+pub const LEND: usize = 22;
 
-pub const PUT: usize = 23;
+pub const FILL: usize = 23;
 
-pub const BYTES: usize = 24;
+pub const PUT: usize = 24;
 
-pub const STREW: usize = 25;
+pub const BYTES: usize = 25;
 
-pub const FORMS: usize = 26;
+pub const STREW: usize = 26;
 
-const FORM_TEXTS: [u8; 832] = *b"store HHHHHHHH HH               \
+pub const FORMS: usize = 27;
+
+const FORM_TEXTS: [u8; 864] = *b"store HHHHHHHH HH               \
     blind HHHHHHHH HH               \
     read HHHHHHHH                   \
     z80 store HHHH HH               \
@@ -78,6 +80,7 @@ const FORM_TEXTS: [u8; 832] = *b"store HHHHHHHH HH               \
     latch HH                        \
     rows                            \
     text                            \
+    list DDDDD                      \
     sums                            \
     help                            \
     lend NAME DDDDD                 \

@@ -148,6 +148,7 @@ pub fn obey(
         forms::LATCH => return latch(desk, calls::byte(command.first)),
         forms::ROWS => rows::list(picture),
         forms::TEXT => rows::show(picture, desk.machine.columns()),
+        forms::LIST => rows::list_afresh(desk, command.first, screen, attribute),
         forms::SUMS => sums(
             shared,
             private,

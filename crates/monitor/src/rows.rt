@@ -1,4 +1,6 @@
-// What the kept picture says, row by row.
+// What the kept picture says, row by row, and what the row lister does.
+use crate::desk;
+use crate::desk::Desk;
 use crate::say;
 
 // A byte of a memory. Those of this program have all the places that it asks for.
@@ -65,4 +67,21 @@ pub fn show(picture: &[u8], columns: usize) {
     for row in 0..chain::ROWS {
         show_row(picture, row, columns);
     }
+}
+
+// The row lister's text of the two memories, with so many bytes after them. The kept picture stays.
+pub fn list_afresh(desk: Desk, beyond: usize, screen: &[u8], attribute: &[u8]) {
+    let mut picture = [0u8; lent::PICTURE_BYTES];
+    let mut text = [0u8; listing::TEXT_BYTES];
+    let lent = desk.lent;
+    let a = desk::cut(lent.screen, screen);
+    let b = desk::cut(lent.attribute, attribute);
+    let bytes = listing::list_rows(
+        &screen[0..a],
+        &attribute[0..b],
+        beyond,
+        &mut picture,
+        &mut text,
+    );
+    say::text(&text[0..bytes]);
 }

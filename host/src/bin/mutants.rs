@@ -87,8 +87,7 @@ fn main() {
     let reasons = expect(Reasons::read(&reasons));
     let mutants = versions(&root, &crates);
     let shop = expect(Shop::open(&root, &tree, root.join("target/mutants/right")));
-    let mut runs: Vec<Run> = PROGRAMS.iter().map(|name| expect(Run::stored(&root, name))).collect();
-    runs.extend(expect(Run::listed(&shop.folder)));
+    let runs: Vec<Run> = PROGRAMS.iter().map(|name| expect(Run::stored(&root, name))).collect();
     for run in &runs {
         if let Some(case) = expect(run.noticed(&shop.built(&run.program))) {
             give_up(format!("the code as it is differs from the stored run: {case}"));

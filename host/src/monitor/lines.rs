@@ -1,7 +1,7 @@
 //! What a line says: docs/MONITOR.md's table of forms, and the words and digits of a line.
 
 /// The forms, in the order that `help` has.
-pub const FORMS: [&str; 26] = [
+pub const FORMS: [&str; 27] = [
     "store HHHHHHHH HH",
     "blind HHHHHHHH HH",
     "read HHHHHHHH",
@@ -21,6 +21,7 @@ pub const FORMS: [&str; 26] = [
     "latch HH",
     "rows",
     "text",
+    "list DDDDD",
     "sums",
     "help",
     "lend NAME DDDDD",

@@ -64,6 +64,7 @@ impl Session {
         match form {
             "rows" => Ok(shown::rows(self.picture())),
             "text" => Ok(shown::text(self.picture(), self.columns())),
+            "list DDDDD" => Ok(self.listed(numbers[0] as usize)),
             "help" => Ok(shown::help()),
             _ => match numbers {
                 [] => self.without_numbers(form),
@@ -75,6 +76,14 @@ impl Session {
             }
             .map(|line| vec![line]),
         }
+    }
+
+    /// The row lister's text of the two memories, with so many bytes after them.
+    fn listed(&self, beyond: usize) -> Vec<String> {
+        let memories = [self.lent(SCREEN), self.lent(ATTRIBUTE)];
+        let whole = memories.iter().all(|memory| memory.len() == chain::PLACES) && beyond == 0;
+        let input = if whole { memories.concat() } else { Vec::new() };
+        chain::listing(&input).lines().map(str::to_string).collect()
     }
 
     fn without_numbers(&mut self, form: &str) -> Answer<String> {

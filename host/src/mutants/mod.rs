@@ -5,7 +5,6 @@ pub mod build;
 pub mod changes;
 pub mod code;
 pub mod kit;
-pub mod lister;
 pub mod noticed;
 pub mod rules;
 

@@ -1,7 +1,6 @@
 //! Whether a stored run notices a version: a program that is built of it writes something else.
 use super::build::Shop;
-use super::{lister, Mutant};
-use crate::chain;
+use super::Mutant;
 use std::fs::File;
 use std::io::{self, Read};
 use std::path::{Path, PathBuf};
@@ -42,22 +41,6 @@ impl Run {
             folder: if data.exists() { data } else { stored.clone() },
             expected: std::fs::read(stored.join("stdout"))?,
         })
-    }
-
-    /// The row lister on other inputs, which are put into a folder; what it must write is the model's.
-    pub fn listed(folder: &Path) -> io::Result<Vec<Run>> {
-        let run = |(number, bytes): (usize, Vec<u8>)| {
-            let input = folder.join(format!("screen{number}.bin"));
-            std::fs::write(&input, &bytes)?;
-            Ok(Run {
-                program: "rows".to_string(),
-                arguments: Vec::new(),
-                input: Some(input),
-                folder: folder.to_path_buf(),
-                expected: chain::listing(&bytes).into_bytes(),
-            })
-        };
-        lister::inputs().into_iter().enumerate().map(run).collect()
     }
 
     /// The last remark ahead of a place of the output: the case that it is in.

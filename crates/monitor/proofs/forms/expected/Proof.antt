@@ -4,10 +4,10 @@ use Rattle.monitor.proofs.forms.expected.Statement.{statement}
 use Rattle.monitor.proofs.forms.expected.Tie as tie
 
 abbrev Inv-loop : tie.InvT-loop
-Inv-loop text meant₀ form₀ t4 meant form = form ≤ 26
+Inv-loop text meant₀ form₀ t4 meant form = form ≤ 27
 
 abbrev μ-loop : tie.MeasureT-loop
-μ-loop text meant₀ form₀ t4 meant form = 26 - form
+μ-loop text meant₀ form₀ t4 meant form = 27 - form
 
 is-blank-requires : tie.Need-is-blank-requires Inv-loop μ-loop
 is-blank-requires c κs = search needs

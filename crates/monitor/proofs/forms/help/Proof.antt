@@ -4,10 +4,10 @@ use Rattle.monitor.proofs.forms.help.Statement.{statement}
 use Rattle.monitor.proofs.forms.help.Tie as tie
 
 abbrev Inv-loop : tie.InvT-loop
-Inv-loop form₀ t2 t3 form = form ≤ 26
+Inv-loop form₀ t2 t3 form = form ≤ 27
 
 abbrev μ-loop : tie.MeasureT-loop
-μ-loop form₀ t2 t3 form = 26 - form
+μ-loop form₀ t2 t3 form = 27 - form
 
 loop-holds : tie.Need-loop-holds Inv-loop μ-loop
 loop-holds c = search needs
