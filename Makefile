@@ -4,11 +4,12 @@
 # make expected: what the programs are given and must write, made again by the model in host/.
 # make scripts: the monitor's long scripts, made again from their seeds.
 # make compare: the row lister beside the model, on 5,000 screens that are hard to walk, and the tube on 500.
+# make mutants: small wrong versions of the code, each against the stored runs (with cargo and rustc); CRATES='a b' for some.
 # make png: the tube's picture again as docs/tube.png.
 # make host: librainbow.a from C, C++ and Rust, each call beside the model (on x86-64, with cargo, a C and a C++
 # compiler and valgrind).
 # make bench: the library beside plain C, in time and in instructions (on x86-64, with a C compiler and valgrind).
-.PHONY: all test expected scripts compare png host archive host-load host-c host-memory bench clean
+.PHONY: all test expected scripts compare mutants png host archive host-load host-c host-memory bench clean
 
 # For make host and make bench. ARCHIVE is the folder of librainbow.a, RUN a command put in front of each program, LINK more words
 # for the linker of C programs. Where the sanitizers or valgrind cannot be had, SANITIZE and VALGRIND may be empty.
@@ -55,6 +56,10 @@ compare:
 	cargo build -q --release --manifest-path host/Cargo.toml
 	host/target/release/compare_rows target/bin/rows 5000
 	host/target/release/compare_tube target/bin/tube 500
+
+mutants:
+	cargo build -q --release --manifest-path host/Cargo.toml
+	host/target/release/mutants . $(CRATES)
 
 png:
 	cargo build -q --release --manifest-path host/Cargo.toml

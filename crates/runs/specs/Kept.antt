@@ -43,7 +43,8 @@ playedAll (call ∷ calls) w = playedAll calls (played call w)
 abbrev pub Kept : World → Type 0
 Kept w = after Draw w .picture ≡ w .picture
 
--- in a world whose drawing is accepted, as it is after any such run if it was before
+-- "the kept picture equals one drawn afresh from memory": what is kept before a run is kept after it, and a drawing is accepted
+-- after it exactly if it was before
 abbrev pub KeptByRuns : Type 0
 KeptByRuns =
     (calls : List Call) (w : World) → allInRuns calls ≡ true → Kept w

@@ -43,8 +43,8 @@ isZ80 Draw = false
 isZ80 (StoreWithPicture address byte) = false
 isZ80 (DrawLine row scan) = false
 
--- "The Z80 reads and writes only its own 2 KB and the 62 KB that it shares": of the world a Z80 call leaves all but private
--- memory and shared memory from 0800 up
+-- The owner's second demand: "The Z80 reads and writes only its own 2 KB and the 62 KB that it shares." Of the world a Z80 call
+-- leaves all but private memory and shared memory from 0800 up
 pub record LeavesTheRest (w v : World) : Type 0 where
   pub machine : v .machine ≡ w .machine
   pub below0800 : take 0x0800 (v .shared) ≡ take 0x0800 (w .shared)

@@ -1,5 +1,5 @@
 // The NVM's shadow, read and written by place. Document 01, "Lent memory", second paragraph. The
-// copies between shadow and NVM are the port 0A's, in the crate ports.
+// copies between shadow and NVM are the port 0A's, in the crate diagnostic.
 ghost use mathlib.Core.Path.{_≡_};
 ghost use Rattle.shadow.specs.Shadow.{readShadow, writeShadow, writtenShadow};
 use lent::ByteRead;

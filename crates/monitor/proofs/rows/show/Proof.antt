@@ -1,13 +1,14 @@
 use Prim.Native.Nat.{_-_, _≤_}
 use borrow.Author.Needs.{needs}
+use Rattle.chain.specs.Chain.{rows}
 use Rattle.monitor.proofs.rows.show.Statement.{statement}
 use Rattle.monitor.proofs.rows.show.Tie as tie
 
 abbrev Inv-loop : tie.InvT-loop
-Inv-loop picture columns row₀ row = row ≤ 24
+Inv-loop picture columns row₀ row = row ≤ rows
 
 abbrev μ-loop : tie.MeasureT-loop
-μ-loop picture columns row₀ row = 24 - row
+μ-loop picture columns row₀ row = rows - row
 
 loop-holds : tie.Need-loop-holds Inv-loop μ-loop
 loop-holds c = search needs

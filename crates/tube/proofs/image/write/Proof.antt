@@ -1,13 +1,14 @@
 use Prim.Native.Nat.{_-_, _≤_}
 use borrow.Author.Needs.{needs}
+use Rattle.chain.specs.Chain.{rows}
 use Rattle.tube.proofs.image.write.Statement.{statement}
 use Rattle.tube.proofs.image.write.Tie as tie
 
 abbrev Inv-loop : tie.InvT-loop
-Inv-loop machine picture table n₀ n = n ≤ 24
+Inv-loop machine picture table n₀ n = n ≤ rows
 
 abbrev μ-loop : tie.MeasureT-loop
-μ-loop machine picture table n₀ n = 24 - n
+μ-loop machine picture table n₀ n = rows - n
 
 slice-aggregate-write-all : tie.Need-slice-aggregate-write-all Inv-loop μ-loop
 slice-aggregate-write-all c = search needs
