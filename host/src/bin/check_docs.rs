@@ -64,16 +64,24 @@ fn missing(root: &Path, name: &str, text: &str) -> Vec<String> {
         let below = root.join("crates").join(path);
         below.exists() || below.with_extension("edit").exists() || root.join(path).exists()
     };
-    let paths: BTreeSet<&str> = paths(text).filter(looks).filter(|path| !there(path)).collect();
-    paths.into_iter().map(|path| format!("{name} names {path}, which is not there")).collect()
+    let paths: BTreeSet<&str> = paths(text)
+        .filter(looks)
+        .filter(|path| !there(path))
+        .collect();
+    paths
+        .into_iter()
+        .map(|path| format!("{name} names {path}, which is not there"))
+        .collect()
 }
 
 /// Wrong versions that the promises do not name.
 fn unlisted(root: &Path, promises: &str) -> Vec<String> {
-    let edits = files(root, "must-fail", ".edit").into_iter().filter_map(|edit| {
-        let shown = edit.strip_prefix(root).ok()?.to_string_lossy().into_owned();
-        (!promises.contains(&shown)).then(|| format!("docs/PROMISES.md does not name {shown}"))
-    });
+    let edits = files(root, "must-fail", ".edit")
+        .into_iter()
+        .filter_map(|edit| {
+            let shown = edit.strip_prefix(root).ok()?.to_string_lossy().into_owned();
+            (!promises.contains(&shown)).then(|| format!("docs/PROMISES.md does not name {shown}"))
+        });
     edits.collect()
 }
 
@@ -85,12 +93,21 @@ fn theorems(root: &Path, promises: &str) -> Vec<String> {
         .filter_map(|line| line.strip_prefix("pub ")?.split_whitespace().next())
         .filter(|name| name.ends_with("-once"))
         .collect();
-    let named: BTreeSet<&str> = promises.split('`').filter(|name| name.ends_with("-once")).collect();
+    let named: BTreeSet<&str> = promises
+        .split('`')
+        .filter(|name| name.ends_with("-once"))
+        .collect();
     let only = |a: &BTreeSet<&str>, b: &BTreeSet<&str>, why: &str| -> Vec<String> {
-        a.difference(b).map(|name| format!("{name}: {why}")).collect()
+        a.difference(b)
+            .map(|name| format!("{name}: {why}"))
+            .collect()
     };
     let mut bad = only(&proved, &named, "docs/PROMISES.md does not name it");
-    bad.extend(only(&named, &proved, "crates/runs/proofs/NoSecond.antt has no such theorem"));
+    bad.extend(only(
+        &named,
+        &proved,
+        "crates/runs/proofs/NoSecond.antt has no such theorem",
+    ));
     bad
 }
 
@@ -107,7 +124,12 @@ fn main() {
     let mut bad = unnamed(&root, &manuals_text);
     bad.extend(missing(&root, manuals, &manuals_text));
     bad.extend(missing(&root, promises, &promises_text));
-    for name in ["docs/ARCHITECTURE.md", "docs/CALLS.md", "docs/DECISIONS.md", "README.md"] {
+    for name in [
+        "docs/ARCHITECTURE.md",
+        "docs/CALLS.md",
+        "docs/DECISIONS.md",
+        "README.md",
+    ] {
         bad.extend(missing(&root, name, &read(&root.join(name))));
     }
     bad.extend(unlisted(&root, &promises_text));

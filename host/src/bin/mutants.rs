@@ -65,9 +65,56 @@ fn verdicts(shop: &Shop, runs: &[Run], mutants: &[Mutant]) -> Vec<Verdict> {
     done.into_iter().map(|(_, one)| one).collect()
 }
 
-fn line(mutant: &Mutant) -> String {
-    let rule = mutant.rule.as_ref().map_or(String::new(), |rule| format!("\n  {rule}"));
-    format!("{}\n  {}{rule}", mutant.file, mutant.shown)
+/// What was said of the versions so far.
+#[derive(Default)]
+struct Tally {
+    not_taken: usize,
+    noticed: usize,
+    faults: usize,
+    endless: usize,
+    alike: Vec<Mutant>,
+    /// What there is to mend.
+    bad: Vec<String>,
+    list: String,
+}
+
+impl Tally {
+    fn add(&mut self, mutant: &Mutant, verdict: Verdict, reasons: &Reasons) {
+        let line = match &mutant.rule {
+            Some(rule) => format!("{}\n  {}\n  {rule}", mutant.file, mutant.shown),
+            None => format!("{}\n  {}", mutant.file, mutant.shown),
+        };
+        let said = match verdict {
+            Verdict::NoProgram(why) => {
+                self.not_taken += 1;
+                if mutant.rule.is_some() {
+                    self.bad.push(format!("rustc does not take\n{line}\n{why}"));
+                }
+                "rustc does not take it".to_string()
+            }
+            Verdict::Noticed(case) => {
+                self.noticed += 1;
+                self.faults += usize::from(case.starts_with("a fault"));
+                self.endless += usize::from(case.starts_with("does not end"));
+                case
+            }
+            Verdict::Alike => self.alike(mutant, &line, reasons),
+        };
+        self.list.push_str(&format!("{line}\n    {said}\n"));
+    }
+
+    /// A version that no run notices. One that was made for a rule has to be noticed.
+    fn alike(&mut self, mutant: &Mutant, line: &str, reasons: &Reasons) -> String {
+        self.alike.push(mutant.clone());
+        match reasons.of(mutant) {
+            Some(reason) if mutant.rule.is_none() => format!("alike: {reason}"),
+            _ => {
+                self.bad
+                    .push(format!("nothing but the proof notices\n{line}"));
+                "NOT NOTICED".to_string()
+            }
+        }
+    }
 }
 
 fn main() {
@@ -79,65 +126,56 @@ fn main() {
     let root = expect(root.canonicalize());
     let tree = expect(Tree::of(&root, &PROGRAMS));
     let all: Vec<String> = tree.libraries().map(|one| one.name.clone()).collect();
-    let crates = if words.len() > 1 { words[1..].to_vec() } else { all.clone() };
+    let crates = if words.len() > 1 {
+        words[1..].to_vec()
+    } else {
+        all.clone()
+    };
     if let Some(other) = crates.iter().find(|name| !all.contains(name)) {
-        give_up(format!("expected a crate that a program is made of, not {other}; there are {}", all.join(" ")));
+        let there = all.join(" ");
+        give_up(format!(
+            "expected a crate that a program is made of, not {other}; there are {there}"
+        ));
     }
     let reasons = expect(fs::read_to_string(root.join("host/mutants/alike.txt")));
     let reasons = expect(Reasons::read(&reasons));
     let mutants = versions(&root, &crates);
     let shop = expect(Shop::open(&root, &tree, root.join("target/mutants/right")));
-    let runs: Vec<Run> = PROGRAMS.iter().map(|name| expect(Run::stored(&root, name))).collect();
+    let runs: Vec<Run> = PROGRAMS
+        .iter()
+        .map(|name| expect(Run::stored(&root, name)))
+        .collect();
     for run in &runs {
         if let Some(case) = expect(run.noticed(&shop.built(&run.program))) {
-            give_up(format!("the code as it is differs from the stored run: {case}"));
+            give_up(format!(
+                "the code as it is differs from the stored run: {case}"
+            ));
         }
     }
 
-    let mut list = String::new();
-    let (mut none, mut noticed, mut faults, mut endless) = (0, 0, 0, 0);
-    let (mut alike, mut bad) = (Vec::new(), Vec::new());
+    let mut tally = Tally::default();
     for (mutant, verdict) in mutants.iter().zip(verdicts(&shop, &runs, &mutants)) {
-        let said = match verdict {
-            Verdict::NoProgram(why) => {
-                none += 1;
-                if mutant.rule.is_some() {
-                    bad.push(format!("rustc does not take\n{}\n{why}", line(mutant)));
-                }
-                "rustc does not take it".to_string()
-            }
-            Verdict::Noticed(case) => {
-                noticed += 1;
-                faults += usize::from(case.starts_with("a fault"));
-                endless += usize::from(case.starts_with("does not end"));
-                case
-            }
-            Verdict::Alike => {
-                alike.push(mutant.clone());
-                match reasons.of(mutant) {
-                    Some(reason) if mutant.rule.is_none() => format!("alike: {reason}"),
-                    _ => {
-                        bad.push(format!("nothing but the proof notices\n{}", line(mutant)));
-                        "NOT NOTICED".to_string()
-                    }
-                }
-            }
-        };
-        list.push_str(&format!("{}\n    {said}\n", line(mutant)));
+        tally.add(mutant, verdict, &reasons);
     }
-    bad.extend(reasons.of_none(&crates, &alike).into_iter().map(|one| format!("no version, or not alike\n{one}")));
-    let listed = root.join("target/mutants/list.txt");
-    expect(fs::write(&listed, list));
-    for one in &bad {
+    let stale = reasons.of_none(&crates, &tally.alike).into_iter();
+    tally.bad.extend(
+        stale.map(|one| format!("alike.txt has no such version, or it is not alike\n{one}")),
+    );
+    expect(fs::write(root.join("target/mutants/list.txt"), &tally.list));
+    for one in &tally.bad {
         println!("{one}");
     }
     println!(
-        "{} versions of {} crates: rustc does not take {none}; a stored run notices {noticed} ({faults} by a fault, {endless} that do not end); {} are alike, {} with a reason",
+        "{} versions of {} crates, each in target/mutants/list.txt",
         mutants.len(),
-        crates.len(),
-        alike.len(),
-        alike.len() - bad.len().min(alike.len()),
+        crates.len()
     );
-    println!("each is in target/mutants/list.txt");
-    exit(i32::from(!bad.is_empty()));
+    println!("rustc does not take: {}", tally.not_taken);
+    println!(
+        "a stored run notices: {}, of them {} by a fault, {} that do not end",
+        tally.noticed, tally.faults, tally.endless
+    );
+    println!("alike: {}", tally.alike.len());
+    println!("to mend: {}", tally.bad.len());
+    exit(i32::from(!tally.bad.is_empty()));
 }

@@ -49,8 +49,14 @@ mod tests {
             ("marked 80000000 31", "marked\n"),
             ("marked FFFFFFFF 32", "not marked\n"),
             ("dots", "dots of a line: 800\n"),
-            ("latch 1F", "latched: 80 columns, 60 Hz, interlace 0, latch 1F"),
-            ("port C 4", "written: 80 columns, 60 Hz, interlace 0, latch 03"),
+            (
+                "latch 1F",
+                "latched: 80 columns, 60 Hz, interlace 0, latch 1F",
+            ),
+            (
+                "port C 4",
+                "written: 80 columns, 60 Hz, interlace 0, latch 03",
+            ),
         ];
         let mut session = Session::power_up();
         for (line, begins) in lines {

@@ -10,10 +10,17 @@ impl Reasons {
     pub fn read(text: &str) -> Result<Reasons, String> {
         let mut reasons = BTreeMap::new();
         let lines: Vec<&str> = text.lines().filter(|line| !line.starts_with('#')).collect();
-        for entry in lines.split(|line| line.is_empty()).filter(|lines| !lines.is_empty()) {
+        for entry in lines
+            .split(|line| line.is_empty())
+            .filter(|lines| !lines.is_empty())
+        {
             let reason = entry.iter().filter(|line| line.starts_with(' '));
             let reason = reason.map(|line| line.trim()).collect::<Vec<_>>().join(" ");
-            let listed: Vec<&&str> = entry.iter().skip(1).filter(|line| !line.starts_with(' ')).collect();
+            let listed: Vec<&&str> = entry
+                .iter()
+                .skip(1)
+                .filter(|line| !line.starts_with(' '))
+                .collect();
             if reason.is_empty() || listed.is_empty() || !entry[0].starts_with("crates/") {
                 return Err(format!("expected a file, versions and a reason: {entry:?}"));
             }
@@ -35,8 +42,16 @@ impl Reasons {
     /// The reasons for versions of a crate that are none of these.
     pub fn of_none(&self, crates: &[String], alike: &[Mutant]) -> Vec<String> {
         let alike: Vec<_> = alike.iter().map(Reasons::key).collect();
-        let of_crates = |file: &str| crates.iter().any(|name| file.split('/').nth(1) == Some(name));
-        let none = self.0.keys().filter(|key| of_crates(&key.0) && !alike.contains(key));
-        none.map(|(file, shown)| format!("{file}\n  {shown}")).collect()
+        let of_crates = |file: &str| {
+            crates
+                .iter()
+                .any(|name| file.split('/').nth(1) == Some(name))
+        };
+        let none = self
+            .0
+            .keys()
+            .filter(|key| of_crates(&key.0) && !alike.contains(key));
+        none.map(|(file, shown)| format!("{file}\n  {shown}"))
+            .collect()
     }
 }

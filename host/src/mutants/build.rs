@@ -129,23 +129,39 @@ impl<'a> Shop<'a> {
     pub fn build(&self, one: &Crate) -> Result<(), String> {
         let mut rustc = Command::new("rustc");
         let words = "--edition 2021 -A warnings -C opt-level=1 -C overflow-checks=on";
-        rustc.args(words.split(' ')).args(["--crate-name", &one.name]);
+        rustc
+            .args(words.split(' '))
+            .args(["--crate-name", &one.name]);
         rustc.arg("-L").arg(self.folder.join("built"));
         for need in &one.needs {
-            rustc.arg("--extern").arg(format!("{need}={}", self.library(need).display()));
+            rustc
+                .arg("--extern")
+                .arg(format!("{need}={}", self.library(need).display()));
         }
         let source = self.source(&one.name);
         if one.is_program {
-            rustc.arg(source.join("main.rs")).arg("-o").arg(self.built(&one.name));
+            rustc
+                .arg(source.join("main.rs"))
+                .arg("-o")
+                .arg(self.built(&one.name));
         } else {
-            rustc.args(["--crate-type", "rlib"]).arg(source.join("lib.rs"));
+            rustc
+                .args(["--crate-type", "rlib"])
+                .arg(source.join("lib.rs"));
             rustc.arg("-o").arg(self.library(&one.name));
         }
-        let done = rustc.stdin(Stdio::null()).output().map_err(|error| format!("rustc: {error}"))?;
+        let done = rustc
+            .stdin(Stdio::null())
+            .output()
+            .map_err(|error| format!("rustc: {error}"))?;
         if done.status.success() {
             return Ok(());
         }
-        Err(format!("{}: {}", one.name, String::from_utf8_lossy(&done.stderr)))
+        Err(format!(
+            "{}: {}",
+            one.name,
+            String::from_utf8_lossy(&done.stderr)
+        ))
     }
 
     /// Another folder with the same.
@@ -153,7 +169,10 @@ impl<'a> Shop<'a> {
         for part in ["src", "built"] {
             copy_folder(&self.folder.join(part), &folder.join(part))?;
         }
-        Ok(Shop { tree: self.tree, folder })
+        Ok(Shop {
+            tree: self.tree,
+            folder,
+        })
     }
 
     /// Puts a version's file in its place; the libraries that are made of it are built anew.
@@ -161,7 +180,9 @@ impl<'a> Shop<'a> {
         self.write_file(&mutant.crate_name, &mutant.file, &mutant.text)
             .map_err(|error| error.to_string())?;
         let made = self.tree.made_of(&mutant.crate_name);
-        made.into_iter().filter(|one| !one.is_program).try_for_each(|one| self.build(one))
+        made.into_iter()
+            .filter(|one| !one.is_program)
+            .try_for_each(|one| self.build(one))
     }
 
     /// Makes what a version changed as it is in another folder.

@@ -50,7 +50,9 @@ impl<'a> Code<'a> {
     /// A value ends here, so that a sign after it stands between two.
     fn ends_value(&self, at: usize) -> bool {
         match self.kind(at) {
-            Some(Kind::Word) => !["return", "if", "in", "match", "else", "while"].contains(&self.token(at)),
+            Some(Kind::Word) => {
+                !["return", "if", "in", "match", "else", "while"].contains(&self.token(at))
+            }
             Some(Kind::Number) => true,
             _ => [")", "]"].contains(&self.token(at)),
         }
@@ -60,7 +62,8 @@ impl<'a> Code<'a> {
     fn is_step(&self, at: usize) -> bool {
         self.token(at) == "+=" && self.token(at + 2) == ";" && {
             let step = self.token(at + 1);
-            step.chars().all(|c| c.is_ascii_digit() || c.is_ascii_uppercase() || c == '_')
+            step.chars()
+                .all(|c| c.is_ascii_digit() || c.is_ascii_uppercase() || c == '_')
         }
     }
 
@@ -74,7 +77,10 @@ impl<'a> Code<'a> {
         }
         let others = OTHERS.iter().filter(|(old, _)| *old == sign);
         let between = at > 0 && self.ends_value(at - 1);
-        others.filter(|_| between).map(|(_, new)| new.to_string()).collect()
+        others
+            .filter(|_| between)
+            .map(|(_, new)| new.to_string())
+            .collect()
     }
 
     /// One more and one less. A step of a loop stays over 0.
@@ -83,7 +89,9 @@ impl<'a> Code<'a> {
         let hex = text.starts_with("0x");
         let digits = if hex { &text[2..] } else { text };
         let radix = if hex { 16 } else { 10 };
-        let end = digits.find(|c: char| !c.is_digit(radix)).unwrap_or(digits.len());
+        let end = digits
+            .find(|c: char| !c.is_digit(radix))
+            .unwrap_or(digits.len());
         let (digits, suffix) = digits.split_at(end);
         let number = match u64::from_str_radix(digits, radix) {
             Ok(number) => number,
@@ -92,7 +100,13 @@ impl<'a> Code<'a> {
         let least = u64::from(at > 0 && self.is_step(at - 1));
         let mut numbers = vec![number + 1];
         numbers.extend(number.checked_sub(1).filter(|less| *less >= least));
-        let shown = |n: u64| if hex { format!("0x{n:X}{suffix}") } else { format!("{n}{suffix}") };
+        let shown = |n: u64| {
+            if hex {
+                format!("0x{n:X}{suffix}")
+            } else {
+                format!("{n}{suffix}")
+            }
+        };
         numbers.into_iter().map(shown).collect()
     }
 
@@ -146,13 +160,17 @@ impl<'a> Code<'a> {
     /// A statement on a line of its own that gives a value to something or calls a function.
     fn left_out(&self, at: usize) -> Option<Change> {
         let begins = at > 0 && ["{", "}", ";"].contains(&self.token(at - 1));
-        let kept = ["let", "return", "use", "pub", "mod", "const", "fn", "while", "if", "match", "for"];
+        let kept = [
+            "let", "return", "use", "pub", "mod", "const", "fn", "while", "if", "match", "for",
+        ];
         if !begins || self.kind(at) != Some(Kind::Word) || kept.contains(&self.token(at)) {
             return None;
         }
         let from = self.tokens[at].span.start;
         let end = from + self.text[from..].find('\n')?;
-        let ends = self.tokens[at..].iter().position(|token| token.span.end >= end)?;
+        let ends = self.tokens[at..]
+            .iter()
+            .position(|token| token.span.end >= end)?;
         let step = (at..at + ends).any(|sign| self.is_step(sign));
         if self.token(at + ends) != ";" || self.tokens[at + ends].span.end != end || step {
             return None;
@@ -189,7 +207,10 @@ mod tests {
     fn signs_and_numbers() {
         assert_eq!(shown("a <= 0"), ["<= -> <", "0 -> 1"]);
         assert_eq!(shown("a + 0x0F"), ["+ -> -", "0x0F -> 0x10", "0x0F -> 0xE"]);
-        assert_eq!(shown("f(&a, -1usize)"), ["1usize -> 2usize", "1usize -> 0usize"]);
+        assert_eq!(
+            shown("f(&a, -1usize)"),
+            ["1usize -> 2usize", "1usize -> 0usize"]
+        );
         assert_eq!(shown("!a"), ["! -> "]);
     }
 
@@ -202,7 +223,10 @@ mod tests {
 
     #[test]
     fn arguments_and_statements() {
-        assert_eq!(shown("{\n    f(a, b);\n}"), ["f(a, b); -> ", "a, b -> b, a"]);
+        assert_eq!(
+            shown("{\n    f(a, b);\n}"),
+            ["f(a, b); -> ", "a, b -> b, a"]
+        );
         assert_eq!(shown("{\n    m.x = y;\n}"), ["m.x = y; -> "]);
         assert_eq!(shown("fn f(a: u8, b: u8) {}"), Vec::<String>::new());
         assert_eq!(shown("enum E { A(u8), B, C, D }"), Vec::<String>::new());

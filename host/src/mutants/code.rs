@@ -18,8 +18,8 @@ pub struct Token {
 }
 
 const SIGNS: [&str; 20] = [
-    "..=", "::", "->", "=>", "==", "!=", "<=", ">=", "&&", "||", "+=", "-=", "*=", "<<", ">>", "..",
-    "/=", "%=", "|=", "&=",
+    "..=", "::", "->", "=>", "==", "!=", "<=", ">=", "&&", "||", "+=", "-=", "*=", "<<", ">>",
+    "..", "/=", "%=", "|=", "&=",
 ];
 
 /// The `ghost use` lines and the contracts.
@@ -70,7 +70,17 @@ pub fn rust(text: &str) -> String {
         line.starts_with("struct ") || line.starts_with("enum ")
     };
     code.lines()
-        .flat_map(|line| [if value(line) { "#[derive(Clone, Copy)]\n" } else { "" }, line, "\n"])
+        .flat_map(|line| {
+            [
+                if value(line) {
+                    "#[derive(Clone, Copy)]\n"
+                } else {
+                    ""
+                },
+                line,
+                "\n",
+            ]
+        })
         .collect()
 }
 
@@ -107,7 +117,10 @@ fn first(text: &str) -> (usize, Option<Kind>) {
         return (character.len_utf8(), None);
     }
     let sign = SIGNS.iter().find(|sign| text.starts_with(**sign));
-    (sign.map_or(character.len_utf8(), |sign| sign.len()), Some(Kind::Sign))
+    (
+        sign.map_or(character.len_utf8(), |sign| sign.len()),
+        Some(Kind::Sign),
+    )
 }
 
 pub fn tokens(text: &str) -> Vec<Token> {
@@ -154,7 +167,9 @@ mod tests {
     fn tokens_are_of_the_code_alone() {
         let tokens = tokens(FILE);
         let texts: Vec<&str> = tokens.iter().map(|t| &FILE[t.span.clone()]).collect();
-        let start = ["pub", "struct", "S", "{", "pub", "a", ":", "u8", ",", "}", "pub", "fn", "f"];
+        let start = [
+            "pub", "struct", "S", "{", "pub", "a", ":", "u8", ",", "}", "pub", "fn", "f",
+        ];
         assert_eq!(texts[..13], start);
         assert_eq!(texts[texts.len() - 4..], ["{", "a", "<=", "}"]);
         assert_eq!(tokens.last().unwrap().within, "f");

@@ -28,11 +28,19 @@ pub struct Mutant {
 /// The line of a change, with the change written where it is.
 fn marked(text: &str, change: &changes::Change) -> String {
     let start = text[..change.span.start].rfind('\n').map_or(0, |at| at + 1);
-    let end = text[change.span.end..].find('\n').map_or(text.len(), |at| change.span.end + at);
-    let old = text[change.span.clone()].split_whitespace().collect::<Vec<_>>().join(" ");
+    let end = text[change.span.end..]
+        .find('\n')
+        .map_or(text.len(), |at| change.span.end + at);
+    let old = text[change.span.clone()]
+        .split_whitespace()
+        .collect::<Vec<_>>()
+        .join(" ");
     let before = text[start..change.span.start].trim_start();
     let after = &text[change.span.end..end];
-    format!("{}: {before}{{{old} -> {}}}{after}", change.within, change.new)
+    format!(
+        "{}: {before}{{{old} -> {}}}{after}",
+        change.within, change.new
+    )
 }
 
 /// Every small change of a file.

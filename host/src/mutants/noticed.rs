@@ -45,8 +45,9 @@ impl Run {
 
     /// The last remark ahead of a place of the output: the case that it is in.
     fn case(&self, at: usize) -> String {
-        let written = String::from_utf8_lossy(&self.expected[..at.min(self.expected.len())]).into_owned();
-        let remark = written.lines().filter(|line| line.starts_with('#')).last();
+        let written =
+            String::from_utf8_lossy(&self.expected[..at.min(self.expected.len())]).into_owned();
+        let remark = written.lines().rfind(|line| line.starts_with('#'));
         format!("{} {}", self.program, remark.unwrap_or(""))
     }
 
@@ -76,10 +77,16 @@ impl Run {
         }
         let late = !reader.is_finished();
         let ended = if late { None } else { running.try_wait()? };
-        running.kill().or_else(|error| ended.map(|_| ()).ok_or(error))?;
+        running
+            .kill()
+            .or_else(|error| ended.map(|_| ()).ok_or(error))?;
         let status = running.wait()?;
         let written = reader.join().unwrap_or_default();
-        let same = written.iter().zip(&self.expected).take_while(|(a, b)| a == b).count();
+        let same = written
+            .iter()
+            .zip(&self.expected)
+            .take_while(|(a, b)| a == b)
+            .count();
         let case = self.case(same);
         if late {
             return Ok(Some(format!("does not end: {case}")));
@@ -88,7 +95,11 @@ impl Run {
             return Ok(None);
         }
         let fault = status.code() == Some(101) && same == written.len();
-        Ok(Some(if fault { format!("a fault: {case}") } else { case }))
+        Ok(Some(if fault {
+            format!("a fault: {case}")
+        } else {
+            case
+        }))
     }
 }
 

@@ -6,7 +6,10 @@ use std::path::Path;
 
 /// The lines of an entry that begin with a sign, without it.
 fn after<'a>(sign: &'a str, lines: &'a [&str]) -> Vec<&'a str> {
-    lines.iter().filter_map(|line| line.strip_prefix(sign)).collect()
+    lines
+        .iter()
+        .filter_map(|line| line.strip_prefix(sign))
+        .collect()
 }
 
 /// A text with one line, which it has once, replaced.
@@ -14,7 +17,13 @@ fn replaced(text: &str, old: &str, new: &[&str]) -> Result<String, String> {
     if text.lines().filter(|line| *line == old).count() != 1 {
         return Err(format!("expected once as a line: {old}"));
     }
-    let lines = text.lines().flat_map(|line| if line == old { new.to_vec() } else { vec![line] });
+    let lines = text.lines().flat_map(|line| {
+        if line == old {
+            new.to_vec()
+        } else {
+            vec![line]
+        }
+    });
     Ok(lines.flat_map(|line| [line, "\n"]).collect())
 }
 
@@ -22,10 +31,13 @@ fn entry(root: &Path, lines: &[&str]) -> Result<Mutant, String> {
     let rule = lines[0].to_string();
     let file = lines.get(1).copied().unwrap_or_default();
     let wrong = |why: String| format!("rules.txt: {rule}: {file}: {why}");
-    let mut text = std::fs::read_to_string(root.join(file)).map_err(|error| wrong(error.to_string()))?;
+    let mut text =
+        std::fs::read_to_string(root.join(file)).map_err(|error| wrong(error.to_string()))?;
     let (old, new) = (after("- ", lines), after("+ ", lines));
     if !rule.starts_with('"') || old.is_empty() || old.len() + new.len() + 2 != lines.len() {
-        return Err(wrong("expected a sentence, a file, lines with - and lines with +".to_string()));
+        return Err(wrong(
+            "expected a sentence, a file, lines with - and lines with +".to_string(),
+        ));
     }
     if old.len() == 1 {
         text = replaced(&text, old[0], &new).map_err(wrong)?;
@@ -36,7 +48,13 @@ fn entry(root: &Path, lines: &[&str]) -> Result<Mutant, String> {
     } else {
         return Err(wrong("expected as many lines with + as with -".to_string()));
     }
-    let shown = |lines: &[&str]| lines.iter().map(|line| line.trim()).collect::<Vec<_>>().join(" ");
+    let shown = |lines: &[&str]| {
+        lines
+            .iter()
+            .map(|line| line.trim())
+            .collect::<Vec<_>>()
+            .join(" ")
+    };
     Ok(Mutant {
         crate_name: file.split('/').nth(1).unwrap_or_default().to_string(),
         file: file.to_string(),
