@@ -5,11 +5,12 @@
 # make scripts: the monitor's long scripts, made again from their seeds.
 # make compare: the row lister beside the model, on 5,000 screens that are hard to walk, and the tube on 500.
 # make mutants: small wrong versions of the code, each against the stored runs (with cargo and rustc); CRATES='a b' for some.
+# make docs: whether docs/MANUALS.md and docs/PROMISES.md name every definition and every wrong version.
 # make png: the tube's picture again as docs/tube.png.
 # make host: librainbow.a from C, C++ and Rust, each call beside the model (on x86-64, with cargo, a C and a C++
 # compiler and valgrind).
 # make bench: the library beside plain C, in time and in instructions (on x86-64, with a C compiler and valgrind).
-.PHONY: all test expected scripts compare mutants png host archive host-load host-c host-memory bench clean
+.PHONY: all test expected scripts compare mutants docs png host archive host-load host-c host-memory bench clean
 
 # For make host and make bench. ARCHIVE is the folder of librainbow.a, RUN a command put in front of each program, LINK more words
 # for the linker of C programs. Where the sanitizers or valgrind cannot be had, SANITIZE and VALGRIND may be empty.
@@ -60,6 +61,10 @@ compare:
 mutants:
 	cargo build -q --release --manifest-path host/Cargo.toml
 	host/target/release/mutants . $(CRATES)
+
+docs:
+	cargo build -q --release --manifest-path host/Cargo.toml
+	host/target/release/check_docs .
 
 png:
 	cargo build -q --release --manifest-path host/Cargo.toml
