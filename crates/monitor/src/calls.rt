@@ -1,6 +1,7 @@
 // The calls of the library, each with the memories that it is lent.
 use crate::desk;
 use crate::desk::Desk;
+use crate::forms;
 use crate::say;
 use commands::Command;
 use lent::ByteRead;
@@ -51,7 +52,7 @@ fn say_stored(answer: Stored) {
     say::text(b"\n");
 }
 
-pub fn store(
+fn store(
     desk: Desk,
     command: Command,
     shared: &mut [u8],
@@ -75,7 +76,7 @@ pub fn store(
     ));
 }
 
-pub fn store_blind(
+fn store_blind(
     desk: Desk,
     command: Command,
     shared: &mut [u8],
@@ -98,7 +99,7 @@ pub fn store_blind(
     );
 }
 
-pub fn read(desk: Desk, command: Command, shared: &[u8], screen: &[u8], attribute: &[u8]) {
+fn read(desk: Desk, command: Command, shared: &[u8], screen: &[u8], attribute: &[u8]) {
     let lent = desk.lent;
     let a = desk::cut(lent.shared, shared);
     let b = desk::cut(lent.screen, screen);
@@ -111,7 +112,23 @@ pub fn read(desk: Desk, command: Command, shared: &[u8], screen: &[u8], attribut
     ));
 }
 
-pub fn store_z80(desk: Desk, command: Command, private: &mut [u8], shared: &mut [u8]) {
+pub fn by_8088(
+    desk: Desk,
+    command: Command,
+    shared: &mut [u8],
+    screen: &mut [u8],
+    attribute: &mut [u8],
+    picture: &mut [u8],
+) {
+    let form = command.form;
+    match form {
+        forms::STORE => store(desk, command, shared, screen, attribute, picture),
+        forms::BLIND => store_blind(desk, command, shared, screen, attribute),
+        _ => read(desk, command, shared, screen, attribute),
+    }
+}
+
+fn store_z80(desk: Desk, command: Command, private: &mut [u8], shared: &mut [u8]) {
     let address = word(command.first);
     let byte = byte(command.second);
     let lent = desk.lent;
@@ -123,7 +140,7 @@ pub fn store_z80(desk: Desk, command: Command, private: &mut [u8], shared: &mut 
     );
 }
 
-pub fn read_z80(desk: Desk, command: Command, private: &[u8], shared: &[u8]) {
+fn read_z80(desk: Desk, command: Command, private: &[u8], shared: &[u8]) {
     let address = word(command.first);
     let lent = desk.lent;
     let a = desk::cut(lent.private, private);
@@ -131,7 +148,15 @@ pub fn read_z80(desk: Desk, command: Command, private: &[u8], shared: &[u8]) {
     say_read(memories::read_z80(&private[0..a], &shared[0..b], address));
 }
 
-pub fn port(desk: Desk, command: Command, shadow: &mut [u8], nvm: &mut [u8]) -> Desk {
+pub fn by_z80(desk: Desk, command: Command, private: &mut [u8], shared: &mut [u8]) {
+    let form = command.form;
+    match form {
+        forms::Z80_STORE => store_z80(desk, command, private, shared),
+        _ => read_z80(desk, command, private, shared),
+    }
+}
+
+fn port(desk: Desk, command: Command, shadow: &mut [u8], nvm: &mut [u8]) -> Desk {
     let port = word(command.first);
     let code = byte(command.second);
     let lent = desk.lent;
@@ -146,13 +171,21 @@ pub fn port(desk: Desk, command: Command, shadow: &mut [u8], nvm: &mut [u8]) -> 
     desk::with_machine(desk, written.machine)
 }
 
-pub fn tick(desk: Desk) -> Desk {
+fn tick(desk: Desk) -> Desk {
     let ticked = desk.machine.vertical_tick();
     say::machine(b"ticked: ", ticked);
     desk::with_machine(desk, ticked)
 }
 
-pub fn write_shadow(desk: Desk, command: Command, shadow: &mut [u8]) {
+pub fn to_machine(desk: Desk, command: Command, shadow: &mut [u8], nvm: &mut [u8]) -> Desk {
+    let form = command.form;
+    match form {
+        forms::PORT => port(desk, command, shadow, nvm),
+        _ => tick(desk),
+    }
+}
+
+fn write_shadow(desk: Desk, command: Command, shadow: &mut [u8]) {
     let place = command.first;
     let value = byte(command.second);
     let lent = desk.lent;
@@ -163,10 +196,18 @@ pub fn write_shadow(desk: Desk, command: Command, shadow: &mut [u8]) {
     );
 }
 
-pub fn read_shadow(desk: Desk, command: Command, shadow: &[u8]) {
+fn read_shadow(desk: Desk, command: Command, shadow: &[u8]) {
     let lent = desk.lent;
     let a = desk::cut(lent.shadow, shadow);
     say_read(shadow::read_shadow(&shadow[0..a], command.first));
+}
+
+pub fn to_shadow(desk: Desk, command: Command, shadow: &mut [u8]) {
+    let form = command.form;
+    match form {
+        forms::SHADOW_WRITE => write_shadow(desk, command, shadow),
+        _ => read_shadow(desk, command, shadow),
+    }
 }
 
 pub fn draw(desk: Desk, screen: &[u8], attribute: &[u8], picture: &mut [u8]) {

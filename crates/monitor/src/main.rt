@@ -139,20 +139,15 @@ fn turn(
     let command = forms::parse(text);
     let form = command.form;
     match form {
-        forms::STORE => calls::store(desk, command, shared, screen, attribute, picture),
-        forms::BLIND => calls::store_blind(desk, command, shared, screen, attribute),
-        forms::READ => calls::read(desk, command, shared, screen, attribute),
-        forms::Z80_STORE => calls::store_z80(desk, command, private, shared),
-        forms::Z80_READ => calls::read_z80(desk, command, private, shared),
-        forms::PORT => return calls::port(desk, command, shadow, nvm),
-        forms::TICK => return calls::tick(desk),
-        forms::SHADOW_WRITE => calls::write_shadow(desk, command, shadow),
-        forms::SHADOW_READ => calls::read_shadow(desk, command, shadow),
+        forms::STORE..=forms::READ => {
+            calls::by_8088(desk, command, shared, screen, attribute, picture)
+        }
+        forms::Z80_STORE..=forms::Z80_READ => calls::by_z80(desk, command, private, shared),
+        forms::PORT..=forms::TICK => return calls::to_machine(desk, command, shadow, nvm),
+        forms::SHADOW_WRITE..=forms::SHADOW_READ => calls::to_shadow(desk, command, shadow),
         forms::DRAW => calls::draw(desk, screen, attribute, picture),
         forms::MARKED => calls::marked(command),
-        forms::LINE => scans::draw(desk, command, picture, glyphs, line),
-        forms::GLYPH => scans::part(desk, command, glyphs),
-        forms::DOTS => scans::count(desk),
+        forms::LINE..=forms::DOTS => scans::show(desk, command, picture, glyphs, line),
         _ => {
             return hand::obey(
                 desk,

@@ -2,6 +2,7 @@
 use crate::calls;
 use crate::desk;
 use crate::desk::Desk;
+use crate::forms;
 use crate::rows;
 use crate::say;
 use commands::Command;
@@ -17,7 +18,7 @@ fn shown(dot: u8) -> u8 {
     }
 }
 
-pub fn draw(desk: Desk, command: Command, picture: &[u8], table: &[u8], line: &mut [u8]) {
+fn draw(desk: Desk, command: Command, picture: &[u8], table: &[u8], line: &mut [u8]) {
     let lent = desk.lent;
     let a = desk::cut(lent.picture, picture);
     let b = desk::cut(lent.glyphs, table);
@@ -34,10 +35,10 @@ pub fn draw(desk: Desk, command: Command, picture: &[u8], table: &[u8], line: &m
         say::refused(refusal);
         return;
     }
-    show(line, scan_line::dots_of_line(desk.machine));
+    show_dots(line, scan_line::dots_of_line(desk.machine));
 }
 
-fn show(line: &[u8], dots: usize) {
+fn show_dots(line: &[u8], dots: usize) {
     let mut text = [b'?'; 1188];
     for dot in 0..1188usize {
         text[dot] = shown(rows::byte_of(line, dot));
@@ -49,7 +50,7 @@ fn show(line: &[u8], dots: usize) {
     }
 }
 
-pub fn part(desk: Desk, command: Command, table: &[u8]) {
+fn part(desk: Desk, command: Command, table: &[u8]) {
     let lent = desk.lent;
     let a = desk::cut(lent.glyphs, table);
     let part = glyphs::part(&table[0..a], calls::byte(command.first));
@@ -61,7 +62,16 @@ pub fn part(desk: Desk, command: Command, table: &[u8]) {
     say::bytes(b"part", part);
 }
 
-pub fn count(desk: Desk) {
+fn count(desk: Desk) {
     say::number(b"dots of a line: ", scan_line::dots_of_line(desk.machine));
     say::text(b"\n");
+}
+
+pub fn show(desk: Desk, command: Command, picture: &[u8], table: &[u8], line: &mut [u8]) {
+    let form = command.form;
+    match form {
+        forms::LINE => draw(desk, command, picture, table, line),
+        forms::GLYPH => part(desk, command, table),
+        _ => count(desk),
+    }
 }

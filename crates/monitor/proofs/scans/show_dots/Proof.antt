@@ -2,8 +2,8 @@ use Prim.Native.Nat.{_-_, _≤_}
 use mathlib.Core.Path.{_≡_}
 use lib.ListN.{length}
 use borrow.Author.Needs.{needs}
-use Rattle.monitor.proofs.scans.show.Statement.{statement}
-use Rattle.monitor.proofs.scans.show.Tie as tie
+use Rattle.monitor.proofs.scans.show_dots.Statement.{statement}
+use Rattle.monitor.proofs.scans.show_dots.Tie as tie
 
 abbrev Inv-loop : tie.InvT-loop
 Inv-loop line dots text₀ dot₀ text dot = (dot ≤ 1188) × (length text ≡ 1188)
@@ -62,8 +62,8 @@ returns c = search needs
 returns-2 : tie.Need-returns-2 Inv-loop μ-loop
 returns-2 c = search needs
 
-pub show-spec : {M : Type 1} → statement M
-show-spec =
+pub show-dots-spec : {M : Type 1} → statement M
+show-dots-spec =
     tie.close
     (tie.spec
     Inv-loop
