@@ -5,6 +5,7 @@ use crate::forms;
 use crate::say;
 use commands::Command;
 use lent::ByteRead;
+use machine::Written;
 use mending::Stored;
 
 // A number of a line at the width that a call takes. Its form leaves it no more digits than that.
@@ -16,7 +17,7 @@ fn word(n: usize) -> u16 {
     (n % 65536) as u16
 }
 
-fn address(n: usize) -> u32 {
+pub fn address(n: usize) -> u32 {
     (n % 4294967296) as u32
 }
 
@@ -60,59 +61,33 @@ fn store(
     attribute: &mut [u8],
     picture: &mut [u8],
 ) {
-    let lent = desk.lent;
-    let a = desk::cut(lent.shared, shared);
-    let b = desk::cut(lent.screen, screen);
-    let c = desk::cut(lent.attribute, attribute);
-    let d = desk::cut(lent.picture, picture);
+    let a = desk::cut(desk, desk::PICTURE, picture);
     say_stored(mending::store_with_picture(
         desk.machine,
-        &mut shared[0..a],
-        &mut screen[0..b],
-        &mut attribute[0..c],
-        &mut picture[0..d],
+        shared,
+        screen,
+        attribute,
+        &mut picture[0..a],
         address(command.first),
         byte(command.second),
     ));
 }
 
-fn store_blind(
-    desk: Desk,
-    command: Command,
-    shared: &mut [u8],
-    screen: &mut [u8],
-    attribute: &mut [u8],
-) {
-    let lent = desk.lent;
-    let a = desk::cut(lent.shared, shared);
-    let b = desk::cut(lent.screen, screen);
-    let c = desk::cut(lent.attribute, attribute);
+fn store_blind(command: Command, shared: &mut [u8], screen: &mut [u8], attribute: &mut [u8]) {
+    let address = address(command.first);
+    let byte = byte(command.second);
     say::done(
         b"stored",
-        memories::store_8088(
-            &mut shared[0..a],
-            &mut screen[0..b],
-            &mut attribute[0..c],
-            address(command.first),
-            byte(command.second),
-        ),
+        memories::store_8088(shared, screen, attribute, address, byte),
     );
 }
 
-fn read(desk: Desk, command: Command, shared: &[u8], screen: &[u8], attribute: &[u8]) {
-    let lent = desk.lent;
-    let a = desk::cut(lent.shared, shared);
-    let b = desk::cut(lent.screen, screen);
-    let c = desk::cut(lent.attribute, attribute);
-    say_read(memories::read_8088(
-        &shared[0..a],
-        &screen[0..b],
-        &attribute[0..c],
-        address(command.first),
-    ));
+fn read(command: Command, shared: &[u8], screen: &[u8], attribute: &[u8]) {
+    let address = address(command.first);
+    say_read(memories::read_8088(shared, screen, attribute, address));
 }
 
-pub fn by_8088(
+fn with_lent(
     desk: Desk,
     command: Command,
     shared: &mut [u8],
@@ -123,51 +98,70 @@ pub fn by_8088(
     let form = command.form;
     match form {
         forms::STORE => store(desk, command, shared, screen, attribute, picture),
-        forms::BLIND => store_blind(desk, command, shared, screen, attribute),
-        _ => read(desk, command, shared, screen, attribute),
+        forms::BLIND => store_blind(command, shared, screen, attribute),
+        _ => read(command, shared, screen, attribute),
     }
 }
 
-fn store_z80(desk: Desk, command: Command, private: &mut [u8], shared: &mut [u8]) {
-    let address = word(command.first);
-    let byte = byte(command.second);
-    let lent = desk.lent;
-    let a = desk::cut(lent.private, private);
-    let b = desk::cut(lent.shared, shared);
-    say::done(
-        b"stored",
-        memories::store_z80(&mut private[0..a], &mut shared[0..b], address, byte),
+pub fn by_8088(
+    desk: Desk,
+    command: Command,
+    shared: &mut [u8],
+    screen: &mut [u8],
+    attribute: &mut [u8],
+    picture: &mut [u8],
+) {
+    let a = desk::cut(desk, desk::SHARED, shared);
+    let b = desk::cut(desk, desk::SCREEN, screen);
+    let c = desk::cut(desk, desk::ATTRIBUTE, attribute);
+    with_lent(
+        desk,
+        command,
+        &mut shared[0..a],
+        &mut screen[0..b],
+        &mut attribute[0..c],
+        picture,
     );
 }
 
-fn read_z80(desk: Desk, command: Command, private: &[u8], shared: &[u8]) {
+fn store_z80(command: Command, private: &mut [u8], shared: &mut [u8]) {
     let address = word(command.first);
-    let lent = desk.lent;
-    let a = desk::cut(lent.private, private);
-    let b = desk::cut(lent.shared, shared);
-    say_read(memories::read_z80(&private[0..a], &shared[0..b], address));
+    let byte = byte(command.second);
+    say::done(
+        b"stored",
+        memories::store_z80(private, shared, address, byte),
+    );
+}
+
+fn read_z80(command: Command, private: &[u8], shared: &[u8]) {
+    say_read(memories::read_z80(private, shared, word(command.first)));
 }
 
 pub fn by_z80(desk: Desk, command: Command, private: &mut [u8], shared: &mut [u8]) {
     let form = command.form;
+    let a = desk::cut(desk, desk::PRIVATE, private);
+    let b = desk::cut(desk, desk::SHARED, shared);
     match form {
-        forms::Z80_STORE => store_z80(desk, command, private, shared),
-        _ => read_z80(desk, command, private, shared),
+        forms::Z80_STORE => store_z80(command, &mut private[0..a], &mut shared[0..b]),
+        _ => read_z80(command, &private[0..a], &shared[0..b]),
     }
+}
+
+fn say_written(written: Written) {
+    if written.refusal != lent::ACCEPTED {
+        say::refused(written.refusal);
+        return;
+    }
+    say::machine(b"written: ", written.machine);
 }
 
 fn port(desk: Desk, command: Command, shadow: &mut [u8], nvm: &mut [u8]) -> Desk {
     let port = word(command.first);
     let code = byte(command.second);
-    let lent = desk.lent;
-    let a = desk::cut(lent.shadow, shadow);
-    let b = desk::cut(lent.nvm, nvm);
+    let a = desk::cut(desk, desk::SHADOW, shadow);
+    let b = desk::cut(desk, desk::NVM, nvm);
     let written = ports::write_port(desk.machine, &mut shadow[0..a], &mut nvm[0..b], port, code);
-    if written.refusal != lent::ACCEPTED {
-        say::refused(written.refusal);
-    } else {
-        say::machine(b"written: ", written.machine);
-    }
+    say_written(written);
     desk::with_machine(desk, written.machine)
 }
 
@@ -185,56 +179,23 @@ pub fn to_machine(desk: Desk, command: Command, shadow: &mut [u8], nvm: &mut [u8
     }
 }
 
-fn write_shadow(desk: Desk, command: Command, shadow: &mut [u8]) {
-    let place = command.first;
+fn write_shadow(command: Command, shadow: &mut [u8]) {
     let value = byte(command.second);
-    let lent = desk.lent;
-    let a = desk::cut(lent.shadow, shadow);
     say::done(
         b"written",
-        shadow::write_shadow(&mut shadow[0..a], place, value),
+        shadow::write_shadow(shadow, command.first, value),
     );
 }
 
-fn read_shadow(desk: Desk, command: Command, shadow: &[u8]) {
-    let lent = desk.lent;
-    let a = desk::cut(lent.shadow, shadow);
-    say_read(shadow::read_shadow(&shadow[0..a], command.first));
+fn read_shadow(command: Command, shadow: &[u8]) {
+    say_read(shadow::read_shadow(shadow, command.first));
 }
 
 pub fn to_shadow(desk: Desk, command: Command, shadow: &mut [u8]) {
     let form = command.form;
+    let a = desk::cut(desk, desk::SHADOW, shadow);
     match form {
-        forms::SHADOW_WRITE => write_shadow(desk, command, shadow),
-        _ => read_shadow(desk, command, shadow),
-    }
-}
-
-pub fn draw(desk: Desk, screen: &[u8], attribute: &[u8], picture: &mut [u8]) {
-    let lent = desk.lent;
-    let a = desk::cut(lent.screen, screen);
-    let b = desk::cut(lent.attribute, attribute);
-    let c = desk::cut(lent.picture, picture);
-    let answer = picture::draw(
-        desk.machine,
-        &screen[0..a],
-        &attribute[0..b],
-        &mut picture[0..c],
-    );
-    if answer.refusal != lent::ACCEPTED {
-        say::number(b"refused ", answer.refusal as usize);
-        say::number(b", bytes read ", answer.reads as usize);
-        say::because(answer.refusal);
-        return;
-    }
-    say::number(b"drawn, bytes read: ", answer.reads as usize);
-    say::text(b"\n");
-}
-
-pub fn marked(command: Command) {
-    if marks::is_marked(address(command.first), command.second) {
-        say::line(b"marked");
-    } else {
-        say::line(b"not marked");
+        forms::SHADOW_WRITE => write_shadow(command, &mut shadow[0..a]),
+        _ => read_shadow(command, &shadow[0..a]),
     }
 }

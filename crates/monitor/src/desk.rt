@@ -3,56 +3,66 @@ ghost use Prim.Native.Nat.{_≤_};
 ghost use lib.ListN.{length};
 use machine::Machine;
 
+// The memories by number, in the order of document 01's list.
+pub const SHARED: usize = 0;
+
+pub const PRIVATE: usize = 1;
+
+pub const SCREEN: usize = 2;
+
+pub const ATTRIBUTE: usize = 3;
+
+pub const GLYPHS: usize = 4;
+
+pub const NVM: usize = 5;
+
+pub const SHADOW: usize = 6;
+
+pub const PICTURE: usize = 7;
+
+pub const LINE: usize = 8;
+
+pub const MEMORIES: usize = 9;
+
 // Each memory has one byte more than the list says, so that it can be lent too long.
-pub const SHARED: usize = lent::SHARED_BYTES + 1;
+pub const SHARED_BYTES: usize = lent::SHARED_BYTES + 1;
 
-pub const PRIVATE: usize = lent::PRIVATE_BYTES + 1;
+pub const PRIVATE_BYTES: usize = lent::PRIVATE_BYTES + 1;
 
-pub const SCREEN: usize = lent::SCREEN_BYTES + 1;
+pub const SCREEN_BYTES: usize = lent::SCREEN_BYTES + 1;
 
-pub const ATTRIBUTE: usize = lent::ATTRIBUTE_BYTES + 1;
+pub const ATTRIBUTE_BYTES: usize = lent::ATTRIBUTE_BYTES + 1;
 
-pub const GLYPHS: usize = lent::GLYPH_BYTES + 1;
+pub const GLYPHS_BYTES: usize = lent::GLYPH_BYTES + 1;
 
-pub const NVM: usize = lent::NVM_BYTES + 1;
+pub const NVM_BYTES: usize = lent::NVM_BYTES + 1;
 
-pub const SHADOW: usize = lent::SHADOW_BYTES + 1;
+pub const SHADOW_BYTES: usize = lent::SHADOW_BYTES + 1;
 
-pub const PICTURE: usize = lent::PICTURE_BYTES + 1;
+pub const PICTURE_BYTES: usize = lent::PICTURE_BYTES + 1;
 
-pub const LINE: usize = lent::LINE_BYTES + 1;
-
-pub struct Lent {
-    pub shared: usize,
-    pub private: usize,
-    pub screen: usize,
-    pub attribute: usize,
-    pub glyphs: usize,
-    pub nvm: usize,
-    pub shadow: usize,
-    pub picture: usize,
-    pub line: usize,
-}
+pub const LINE_BYTES: usize = lent::LINE_BYTES + 1;
 
 pub struct Desk {
     pub machine: Machine,
-    pub lent: Lent,
+    // How many bytes of each memory are lent.
+    pub lent: [usize; MEMORIES],
 }
 
 pub fn power_up() -> Desk {
     Desk {
         machine: Machine::power_up(),
-        lent: Lent {
-            shared: lent::SHARED_BYTES,
-            private: lent::PRIVATE_BYTES,
-            screen: lent::SCREEN_BYTES,
-            attribute: lent::ATTRIBUTE_BYTES,
-            glyphs: lent::GLYPH_BYTES,
-            nvm: lent::NVM_BYTES,
-            shadow: lent::SHADOW_BYTES,
-            picture: lent::PICTURE_BYTES,
-            line: lent::LINE_BYTES,
-        },
+        lent: [
+            lent::SHARED_BYTES,
+            lent::PRIVATE_BYTES,
+            lent::SCREEN_BYTES,
+            lent::ATTRIBUTE_BYTES,
+            lent::GLYPH_BYTES,
+            lent::NVM_BYTES,
+            lent::SHADOW_BYTES,
+            lent::PICTURE_BYTES,
+            lent::LINE_BYTES,
+        ],
     }
 }
 
@@ -65,22 +75,25 @@ pub fn with_machine(desk: Desk, machine: Machine) -> Desk {
 pub fn with_lent(desk: Desk, name: usize, bytes: usize) -> Desk {
     let machine = desk.machine;
     let mut lent = desk.lent;
-    match name {
-        0 => lent.shared = bytes,
-        1 => lent.private = bytes,
-        2 => lent.screen = bytes,
-        3 => lent.attribute = bytes,
-        4 => lent.glyphs = bytes,
-        5 => lent.nvm = bytes,
-        6 => lent.shadow = bytes,
-        7 => lent.picture = bytes,
-        _ => lent.line = bytes,
+    if name < MEMORIES {
+        lent[name] = bytes;
     }
     Desk { machine, lent }
 }
 
 // How many bytes of a memory are lent: no more than it has.
-pub fn cut(bytes: usize, memory: &[u8]) -> usize
+pub fn cut(desk: Desk, name: usize, memory: &[u8]) -> usize
+    ensures { λ r. ⌜ r ≤ length (now (memory .entry)) ⌝ }
+{
+    let lent = desk.lent;
+    if name < MEMORIES {
+        return up_to(lent[name], memory);
+    }
+    0
+}
+
+// So many bytes, or as many as a memory has.
+pub fn up_to(bytes: usize, memory: &[u8]) -> usize
     ensures { λ r. ⌜ r ≤ length (now (memory .entry)) ⌝ }
 {
     if bytes < memory.len() {

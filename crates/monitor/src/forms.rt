@@ -101,7 +101,7 @@ const NAMES: [u8; 144] = *b"shared          \
     line            ";
 
 pub fn parse(text: &[u8]) -> Command {
-    commands::parse(&FORM_TEXTS, &NAMES, text)
+    commands::parse(&FORM_TEXTS, &NAMES, input::unless_long(text))
 }
 
 // Shows a form without the blanks after it.
@@ -130,11 +130,23 @@ fn shown_if_meant(form: usize, text: &[u8]) -> bool {
     meant
 }
 
-// Tells what was expected: the forms that begin with the line's first word. Of a line with no words nothing is.
-pub fn expected(text: &[u8]) {
-    if input::is_blank(text) {
+// A line of no form: a remark is shown as it is, and of a line with no words nothing is said.
+pub fn no_form(text: &[u8]) {
+    if input::is_long(text) {
+        say::line(b"expected at most 200 bytes in a line");
         return;
     }
+    if input::is_remark(text) {
+        say::line(text);
+        return;
+    }
+    if !input::is_blank(text) {
+        expected(text);
+    }
+}
+
+// Tells what was expected: the forms that begin with the line's first word.
+fn expected(text: &[u8]) {
     let mut meant = false;
     for form in 0..FORMS {
         meant = meant | shown_if_meant(form, text);

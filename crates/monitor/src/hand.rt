@@ -62,43 +62,43 @@ fn lend(desk: Desk, command: Command, has: usize) -> Desk {
 }
 
 // The lines that name a memory.
-fn named(
+pub fn named(
     desk: Desk,
     command: Command,
-    shared: &mut [u8; desk::SHARED],
-    private: &mut [u8; desk::PRIVATE],
-    screen: &mut [u8; desk::SCREEN],
-    attribute: &mut [u8; desk::ATTRIBUTE],
-    glyphs: &mut [u8; desk::GLYPHS],
-    nvm: &mut [u8; desk::NVM],
-    shadow: &mut [u8; desk::SHADOW],
-    picture: &mut [u8; desk::PICTURE],
-    line: &mut [u8; desk::LINE],
+    shared: &mut [u8; desk::SHARED_BYTES],
+    private: &mut [u8; desk::PRIVATE_BYTES],
+    screen: &mut [u8; desk::SCREEN_BYTES],
+    attribute: &mut [u8; desk::ATTRIBUTE_BYTES],
+    glyphs: &mut [u8; desk::GLYPHS_BYTES],
+    nvm: &mut [u8; desk::NVM_BYTES],
+    shadow: &mut [u8; desk::SHADOW_BYTES],
+    picture: &mut [u8; desk::PICTURE_BYTES],
+    line: &mut [u8; desk::LINE_BYTES],
 ) -> Desk {
     let name = command.first;
     match name {
-        0 => to_memory(desk, command, shared),
-        1 => to_memory(desk, command, private),
-        2 => to_memory(desk, command, screen),
-        3 => to_memory(desk, command, attribute),
-        4 => to_memory(desk, command, glyphs),
-        5 => to_memory(desk, command, nvm),
-        6 => to_memory(desk, command, shadow),
-        7 => to_memory(desk, command, picture),
+        desk::SHARED => to_memory(desk, command, shared),
+        desk::PRIVATE => to_memory(desk, command, private),
+        desk::SCREEN => to_memory(desk, command, screen),
+        desk::ATTRIBUTE => to_memory(desk, command, attribute),
+        desk::GLYPHS => to_memory(desk, command, glyphs),
+        desk::NVM => to_memory(desk, command, nvm),
+        desk::SHADOW => to_memory(desk, command, shadow),
+        desk::PICTURE => to_memory(desk, command, picture),
         _ => to_memory(desk, command, line),
     }
 }
 
-fn sums(
-    shared: &[u8; desk::SHARED],
-    private: &[u8; desk::PRIVATE],
-    screen: &[u8; desk::SCREEN],
-    attribute: &[u8; desk::ATTRIBUTE],
-    glyphs: &[u8; desk::GLYPHS],
-    nvm: &[u8; desk::NVM],
-    shadow: &[u8; desk::SHADOW],
-    picture: &[u8; desk::PICTURE],
-    line: &[u8; desk::LINE],
+pub fn sums(
+    shared: &[u8; desk::SHARED_BYTES],
+    private: &[u8; desk::PRIVATE_BYTES],
+    screen: &[u8; desk::SCREEN_BYTES],
+    attribute: &[u8; desk::ATTRIBUTE_BYTES],
+    glyphs: &[u8; desk::GLYPHS_BYTES],
+    nvm: &[u8; desk::NVM_BYTES],
+    shadow: &[u8; desk::SHADOW_BYTES],
+    picture: &[u8; desk::PICTURE_BYTES],
+    line: &[u8; desk::LINE_BYTES],
 ) {
     strewn::sum(b"sums: shared ", shared);
     strewn::sum(b" private ", private);
@@ -126,20 +126,14 @@ fn latch(desk: Desk, byte: u8) -> Desk {
     desk::with_machine(desk, machine)
 }
 
-// Obeys a line that is no call.
+// Obeys the other lines that are no call.
 pub fn obey(
     desk: Desk,
     command: Command,
     text: &[u8],
-    shared: &mut [u8; desk::SHARED],
-    private: &mut [u8; desk::PRIVATE],
-    screen: &mut [u8; desk::SCREEN],
-    attribute: &mut [u8; desk::ATTRIBUTE],
-    glyphs: &mut [u8; desk::GLYPHS],
-    nvm: &mut [u8; desk::NVM],
-    shadow: &mut [u8; desk::SHADOW],
-    picture: &mut [u8; desk::PICTURE],
-    line: &mut [u8; desk::LINE],
+    screen: &[u8; desk::SCREEN_BYTES],
+    attribute: &[u8; desk::ATTRIBUTE_BYTES],
+    picture: &[u8; desk::PICTURE_BYTES],
 ) -> Desk {
     let form = command.form;
     match form {
@@ -149,34 +143,8 @@ pub fn obey(
         forms::ROWS => rows::list(picture),
         forms::TEXT => rows::show(picture, desk.machine.columns()),
         forms::LIST => rows::list_afresh(desk, command.first, screen, attribute),
-        forms::SUMS => sums(
-            shared,
-            private,
-            screen,
-            attribute,
-            glyphs,
-            nvm,
-            shadow,
-            picture,
-            line,
-        ),
         forms::HELP => forms::help(),
-        forms::LEND..=forms::STREW => {
-            return named(
-                desk,
-                command,
-                shared,
-                private,
-                screen,
-                attribute,
-                glyphs,
-                nvm,
-                shadow,
-                picture,
-                line,
-            );
-        }
-        _ => forms::expected(text),
+        _ => forms::no_form(text),
     }
     desk
 }

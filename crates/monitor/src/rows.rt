@@ -19,9 +19,18 @@ fn list_row(picture: &[u8], row: usize) {
         return;
     }
     say::number(b"row ", row);
+    say_head(picture, at);
+    say_count(count);
+}
+
+fn say_head(picture: &[u8], at: usize) {
+    let at = at % lent::PICTURE_BYTES;
     say::byte(b" start ", byte_of(picture, at));
     say::byte(b"", byte_of(picture, at + 1));
     say::number(b" kind ", byte_of(picture, at + records::KIND_AT) as usize);
+}
+
+fn say_count(count: u8) {
     if count == records::TORN {
         say::line(b" torn");
         return;
@@ -53,12 +62,13 @@ fn show_row(picture: &[u8], row: usize, columns: usize) {
     for cell in 0..132usize {
         text[cell] = shown(byte_of(picture, at + 2 * cell));
     }
+    say_cells(&text, columns);
+}
+
+fn say_cells(text: &[u8], columns: usize) {
+    let cells = desk::up_to(columns, text);
     say::text(b"|");
-    if columns < 132 {
-        say::text(&text[0..80]);
-    } else {
-        say::text(&text[0..132]);
-    }
+    say::text(&text[0..cells]);
     say::line(b"|");
 }
 
@@ -73,9 +83,8 @@ pub fn show(picture: &[u8], columns: usize) {
 pub fn list_afresh(desk: Desk, beyond: usize, screen: &[u8], attribute: &[u8]) {
     let mut picture = [0u8; lent::PICTURE_BYTES];
     let mut text = [0u8; listing::TEXT_BYTES];
-    let lent = desk.lent;
-    let a = desk::cut(lent.screen, screen);
-    let b = desk::cut(lent.attribute, attribute);
+    let a = desk::cut(desk, desk::SCREEN, screen);
+    let b = desk::cut(desk, desk::ATTRIBUTE, attribute);
     let bytes = listing::list_rows(
         &screen[0..a],
         &attribute[0..b],

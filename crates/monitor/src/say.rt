@@ -93,6 +93,19 @@ fn flag(words: &[u8], set: bool) {
     }
 }
 
+fn flip_flops(machine: Machine) {
+    flag(b", blink", machine.blink);
+    flag(b", interrupt", machine.interrupt);
+    flag(b", reverse", machine.reverse);
+    flag(b", watchdog", machine.watchdog);
+}
+
+fn port_0a(machine: Machine) {
+    byte(b", 0A holds ", machine.held);
+    flag(b", blanked", machine.blanked());
+    flag(b", graphics", machine.graphics());
+}
+
 pub fn machine(words: &[u8], machine: Machine) {
     number(words, machine.columns());
     if machine.hertz50 {
@@ -102,12 +115,7 @@ pub fn machine(words: &[u8], machine: Machine) {
     }
     flag(b", interlace", machine.interlace);
     byte(b", latch ", machine.latch);
-    flag(b", blink", machine.blink);
-    flag(b", interrupt", machine.interrupt);
-    flag(b", reverse", machine.reverse);
-    flag(b", watchdog", machine.watchdog);
-    byte(b", 0A holds ", machine.held);
-    flag(b", blanked", machine.blanked());
-    flag(b", graphics", machine.graphics());
+    flip_flops(machine);
+    port_0a(machine);
     text(b"\n");
 }

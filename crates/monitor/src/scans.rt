@@ -1,4 +1,4 @@
-// The scan line and the glyph part, shown.
+// The picture, the scan line and the glyph part, shown.
 use crate::calls;
 use crate::desk;
 use crate::desk::Desk;
@@ -6,6 +6,39 @@ use crate::forms;
 use crate::rows;
 use crate::say;
 use commands::Command;
+use machine::Machine;
+use picture::Drawn;
+
+fn say_drawn(answer: Drawn) {
+    if answer.refusal != lent::ACCEPTED {
+        say::number(b"refused ", answer.refusal as usize);
+        say::number(b", bytes read ", answer.reads as usize);
+        say::because(answer.refusal);
+        return;
+    }
+    say::number(b"drawn, bytes read: ", answer.reads as usize);
+    say::text(b"\n");
+}
+
+fn draw_picture(desk: Desk, screen: &[u8], attribute: &[u8], picture: &mut [u8]) {
+    let a = desk::cut(desk, desk::SCREEN, screen);
+    let b = desk::cut(desk, desk::ATTRIBUTE, attribute);
+    let c = desk::cut(desk, desk::PICTURE, picture);
+    say_drawn(picture::draw(
+        desk.machine,
+        &screen[0..a],
+        &attribute[0..b],
+        &mut picture[0..c],
+    ));
+}
+
+fn is_marked(command: Command) {
+    if marks::is_marked(calls::address(command.first), command.second) {
+        say::line(b"marked");
+    } else {
+        say::line(b"not marked");
+    }
+}
 
 // A dot's shade as a character: a point for an unlit one.
 fn shown(dot: u8) -> u8 {
@@ -18,11 +51,10 @@ fn shown(dot: u8) -> u8 {
     }
 }
 
-fn draw(desk: Desk, command: Command, picture: &[u8], table: &[u8], line: &mut [u8]) {
-    let lent = desk.lent;
-    let a = desk::cut(lent.picture, picture);
-    let b = desk::cut(lent.glyphs, table);
-    let c = desk::cut(lent.line, line);
+fn draw_line(desk: Desk, command: Command, picture: &[u8], table: &[u8], line: &mut [u8]) {
+    let a = desk::cut(desk, desk::PICTURE, picture);
+    let b = desk::cut(desk, desk::GLYPHS, table);
+    let c = desk::cut(desk, desk::LINE, line);
     let refusal = scan_line::draw(
         desk.machine,
         &picture[0..a],
@@ -31,11 +63,15 @@ fn draw(desk: Desk, command: Command, picture: &[u8], table: &[u8], line: &mut [
         command.second,
         &mut line[0..c],
     );
+    say_line(desk.machine, refusal, line);
+}
+
+fn say_line(machine: Machine, refusal: u8, line: &[u8]) {
     if refusal != lent::ACCEPTED {
         say::refused(refusal);
         return;
     }
-    show_dots(line, scan_line::dots_of_line(desk.machine));
+    show_dots(line, scan_line::dots_of_line(machine));
 }
 
 fn show_dots(line: &[u8], dots: usize) {
@@ -43,16 +79,12 @@ fn show_dots(line: &[u8], dots: usize) {
     for dot in 0..1188usize {
         text[dot] = shown(rows::byte_of(line, dot));
     }
-    if dots < 1188 {
-        say::line(&text[0..800]);
-    } else {
-        say::line(&text[0..1188]);
-    }
+    let dots = desk::up_to(dots, &text);
+    say::line(&text[0..dots]);
 }
 
 fn part(desk: Desk, command: Command, table: &[u8]) {
-    let lent = desk.lent;
-    let a = desk::cut(lent.glyphs, table);
+    let a = desk::cut(desk, desk::GLYPHS, table);
     let part = glyphs::part(&table[0..a], calls::byte(command.first));
     let refusal = glyphs::refusal(part);
     if refusal != lent::ACCEPTED {
@@ -67,10 +99,20 @@ fn count(desk: Desk) {
     say::text(b"\n");
 }
 
-pub fn show(desk: Desk, command: Command, picture: &[u8], table: &[u8], line: &mut [u8]) {
+pub fn show(
+    desk: Desk,
+    command: Command,
+    screen: &[u8; desk::SCREEN_BYTES],
+    attribute: &[u8; desk::ATTRIBUTE_BYTES],
+    picture: &mut [u8; desk::PICTURE_BYTES],
+    table: &[u8; desk::GLYPHS_BYTES],
+    line: &mut [u8; desk::LINE_BYTES],
+) {
     let form = command.form;
     match form {
-        forms::LINE => draw(desk, command, picture, table, line),
+        forms::DRAW => draw_picture(desk, screen, attribute, picture),
+        forms::MARKED => is_marked(command),
+        forms::LINE => draw_line(desk, command, picture, table, line),
         forms::GLYPH => part(desk, command, table),
         _ => count(desk),
     }

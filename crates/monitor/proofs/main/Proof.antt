@@ -1,36 +1,53 @@
-use Prim.Native.Nat.{_-_}
 use borrow.Author.Needs.{needs}
 use Rattle.monitor.proofs.main.Statement.{statement}
 use Rattle.monitor.proofs.main.Tie as tie
 
 abbrev Inv-loop : tie.InvT-loop
-Inv-loop shared₀ private₀ screen₀ attribute₀ glyphs₀ nvm₀ shadow₀ picture₀ line₀ desk₀ files i₀ i-end shared private screen attribute glyphs nvm shadow picture line desk i =
+Inv-loop shared₀ private₀ screen₀ attribute₀ glyphs₀ nvm₀ shadow₀ picture₀ line₀ desk₀ source₀ turns₀ shared private screen attribute glyphs nvm shadow picture line desk source turns =
     Unit {0}
 
 abbrev μ-loop : tie.MeasureT-loop
-μ-loop shared₀ private₀ screen₀ attribute₀ glyphs₀ nvm₀ shadow₀ picture₀ line₀ desk₀ files i₀ i-end shared private screen attribute glyphs nvm shadow picture line desk i =
-    i-end - i
+μ-loop shared₀ private₀ screen₀ attribute₀ glyphs₀ nvm₀ shadow₀ picture₀ line₀ desk₀ source₀ turns₀ shared private screen attribute glyphs nvm shadow picture line desk source turns =
+    turns
 
 power-up-requires : tie.Need-power-up-requires Inv-loop μ-loop
 power-up-requires c κs = search needs
 
-arg-count-requires : tie.Need-arg-count-requires Inv-loop μ-loop
-arg-count-requires c κs = search needs
-
-sources-requires : tie.Need-sources-requires Inv-loop μ-loop
-sources-requires c κs = search needs
+first-requires : tie.Need-first-requires Inv-loop μ-loop
+first-requires c κs = search needs
 
 loop-holds : tie.Need-loop-holds Inv-loop μ-loop
 loop-holds c = search needs
 
-opened-requires : tie.Need-opened-requires Inv-loop μ-loop
-opened-requires c κs = search needs
+slice-aggregate-next : tie.Need-slice-aggregate-next Inv-loop μ-loop
+slice-aggregate-next c = search needs
 
-session-requires : tie.Need-session-requires Inv-loop μ-loop
-session-requires c κs = search needs
+next-requires : tie.Need-next-requires Inv-loop μ-loop
+next-requires c κs = search needs
 
-add-i : tie.Need-add-i Inv-loop μ-loop
-add-i c = search needs
+returns : tie.Need-returns Inv-loop μ-loop
+returns c = search needs
+
+slice-aggregate-up-to : tie.Need-slice-aggregate-up-to Inv-loop μ-loop
+slice-aggregate-up-to c = search needs
+
+up-to-requires : tie.Need-up-to-requires Inv-loop μ-loop
+up-to-requires c κs = search needs
+
+sub-turn : tie.Need-sub-turn Inv-loop μ-loop
+sub-turn c = search needs
+
+part-turn-start : tie.Need-part-turn-start Inv-loop μ-loop
+part-turn-start c = search needs
+
+part-turn-end : tie.Need-part-turn-end Inv-loop μ-loop
+part-turn-end c = search needs
+
+turn-requires : tie.Need-turn-requires Inv-loop μ-loop
+turn-requires c κs = search needs
+
+sub-turns : tie.Need-sub-turns Inv-loop μ-loop
+sub-turns c = search needs
 
 loop-less : tie.Need-loop-less Inv-loop μ-loop
 loop-less c = search needs
@@ -38,8 +55,8 @@ loop-less c = search needs
 loop-again : tie.Need-loop-again Inv-loop μ-loop
 loop-again c = search needs
 
-returns : tie.Need-returns Inv-loop μ-loop
-returns c = search needs
+returns-2 : tie.Need-returns-2 Inv-loop μ-loop
+returns-2 c = search needs
 
 pub main-spec : {M : Type 1} → statement M
 main-spec =
@@ -48,12 +65,18 @@ main-spec =
     Inv-loop
     μ-loop
     power-up-requires
-    arg-count-requires
-    sources-requires
+    first-requires
     loop-holds
-    opened-requires
-    session-requires
-    add-i
+    slice-aggregate-next
+    next-requires
+    returns
+    slice-aggregate-up-to
+    up-to-requires
+    sub-turn
+    part-turn-start
+    part-turn-end
+    turn-requires
+    sub-turns
     loop-less
     loop-again
-    returns)
+    returns-2)

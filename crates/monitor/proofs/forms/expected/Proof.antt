@@ -9,9 +9,6 @@ Inv-loop text meant₀ form₀ t4 meant form = form ≤ 27
 abbrev μ-loop : tie.MeasureT-loop
 μ-loop text meant₀ form₀ t4 meant form = 27 - form
 
-is-blank-requires : tie.Need-is-blank-requires Inv-loop μ-loop
-is-blank-requires c κs = search needs
-
 returns : tie.Need-returns Inv-loop μ-loop
 returns c = search needs
 
@@ -39,17 +36,12 @@ line-requires c κs = search needs
 returns-2 : tie.Need-returns-2 Inv-loop μ-loop
 returns-2 c = search needs
 
-returns-3 : tie.Need-returns-3 Inv-loop μ-loop
-returns-3 c = search needs
-
 pub expected-spec : {M : Type 1} → statement M
 expected-spec =
     tie.close
     (tie.spec
     Inv-loop
     μ-loop
-    is-blank-requires
-    returns
     loop-holds
     shown-if-meant-requires
     add-form
@@ -57,5 +49,5 @@ expected-spec =
     loop-again
     slice-aggregate-line
     line-requires
-    returns-2
-    returns-3)
+    returns
+    returns-2)

@@ -6,10 +6,10 @@ use Rattle.monitor.proofs.rows.show_row.Statement.{statement}
 use Rattle.monitor.proofs.rows.show_row.Tie as tie
 
 abbrev Inv-loop : tie.InvT-loop
-Inv-loop picture row columns at text₀ cell₀ t7 t8 text cell = (cell ≤ 132) × (length text ≡ 132)
+Inv-loop picture row columns at text₀ cell₀ text cell = (cell ≤ 132) × (length text ≡ 132)
 
 abbrev μ-loop : tie.MeasureT-loop
-μ-loop picture row columns at text₀ cell₀ t7 t8 text cell = 132 - cell
+μ-loop picture row columns at text₀ cell₀ text cell = 132 - cell
 
 mul-at : tie.Need-mul-at Inv-loop μ-loop
 mul-at c = search needs
@@ -44,41 +44,11 @@ loop-less c = search needs
 loop-again : tie.Need-loop-again Inv-loop μ-loop
 loop-again c = search needs
 
-slice-aggregate-text : tie.Need-slice-aggregate-text Inv-loop μ-loop
-slice-aggregate-text c = search needs
+slice-aggregate-say-cells : tie.Need-slice-aggregate-say-cells Inv-loop μ-loop
+slice-aggregate-say-cells c = search needs
 
-text-requires : tie.Need-text-requires Inv-loop μ-loop
-text-requires c κs = search needs
-
-sub-text : tie.Need-sub-text Inv-loop μ-loop
-sub-text c = search needs
-
-part-text-start : tie.Need-part-text-start Inv-loop μ-loop
-part-text-start c = search needs
-
-part-text-end : tie.Need-part-text-end Inv-loop μ-loop
-part-text-end c = search needs
-
-text-requires-2 : tie.Need-text-requires-2 Inv-loop μ-loop
-text-requires-2 c κs = search needs
-
-sub-text-2 : tie.Need-sub-text-2 Inv-loop μ-loop
-sub-text-2 c = search needs
-
-part-text-start-2 : tie.Need-part-text-start-2 Inv-loop μ-loop
-part-text-start-2 c = search needs
-
-part-text-end-2 : tie.Need-part-text-end-2 Inv-loop μ-loop
-part-text-end-2 c = search needs
-
-text-requires-3 : tie.Need-text-requires-3 Inv-loop μ-loop
-text-requires-3 c κs = search needs
-
-slice-aggregate-line : tie.Need-slice-aggregate-line Inv-loop μ-loop
-slice-aggregate-line c = search needs
-
-line-requires : tie.Need-line-requires Inv-loop μ-loop
-line-requires c κs = search needs
+say-cells-requires : tie.Need-say-cells-requires Inv-loop μ-loop
+say-cells-requires c κs = search needs
 
 returns : tie.Need-returns Inv-loop μ-loop
 returns c = search needs
@@ -100,16 +70,6 @@ show-row-spec =
     add-cell
     loop-less
     loop-again
-    slice-aggregate-text
-    text-requires
-    sub-text
-    part-text-start
-    part-text-end
-    text-requires-2
-    sub-text-2
-    part-text-start-2
-    part-text-end-2
-    text-requires-3
-    slice-aggregate-line
-    line-requires
+    slice-aggregate-say-cells
+    say-cells-requires
     returns)

@@ -32,6 +32,12 @@ loop-less c = search needs
 loop-again : tie.Need-loop-again Inv-loop μ-loop
 loop-again c = search needs
 
+slice-aggregate-up-to : tie.Need-slice-aggregate-up-to Inv-loop μ-loop
+slice-aggregate-up-to c = search needs
+
+up-to-requires : tie.Need-up-to-requires Inv-loop μ-loop
+up-to-requires c κs = search needs
+
 sub-line : tie.Need-sub-line Inv-loop μ-loop
 sub-line c = search needs
 
@@ -44,23 +50,8 @@ part-line-end c = search needs
 line-requires : tie.Need-line-requires Inv-loop μ-loop
 line-requires c κs = search needs
 
-sub-line-2 : tie.Need-sub-line-2 Inv-loop μ-loop
-sub-line-2 c = search needs
-
-part-line-start-2 : tie.Need-part-line-start-2 Inv-loop μ-loop
-part-line-start-2 c = search needs
-
-part-line-end-2 : tie.Need-part-line-end-2 Inv-loop μ-loop
-part-line-end-2 c = search needs
-
-line-requires-2 : tie.Need-line-requires-2 Inv-loop μ-loop
-line-requires-2 c κs = search needs
-
 returns : tie.Need-returns Inv-loop μ-loop
 returns c = search needs
-
-returns-2 : tie.Need-returns-2 Inv-loop μ-loop
-returns-2 c = search needs
 
 pub show-dots-spec : {M : Type 1} → statement M
 show-dots-spec =
@@ -75,13 +66,10 @@ show-dots-spec =
     add-dot
     loop-less
     loop-again
+    slice-aggregate-up-to
+    up-to-requires
     sub-line
     part-line-start
     part-line-end
     line-requires
-    sub-line-2
-    part-line-start-2
-    part-line-end-2
-    line-requires-2
-    returns
-    returns-2)
+    returns)
