@@ -87,7 +87,8 @@ fn read(command: Command, shared: &[u8], screen: &[u8], attribute: &[u8]) {
     say_read(memories::read_8088(shared, screen, attribute, address));
 }
 
-fn with_lent(
+// One of the 8088's calls, on memories that are cut to what is lent of them.
+fn call_8088(
     desk: Desk,
     command: Command,
     shared: &mut [u8],
@@ -114,7 +115,7 @@ pub fn by_8088(
     let a = desk::cut(desk, desk::SHARED, shared);
     let b = desk::cut(desk, desk::SCREEN, screen);
     let c = desk::cut(desk, desk::ATTRIBUTE, attribute);
-    with_lent(
+    call_8088(
         desk,
         command,
         &mut shared[0..a],

@@ -24,6 +24,7 @@ fn list_row(picture: &[u8], row: usize) {
 }
 
 fn say_head(picture: &[u8], at: usize) {
+    // A record is inside the picture; here the prover is told so.
     let at = at % lent::PICTURE_BYTES;
     say::byte(b" start ", byte_of(picture, at));
     say::byte(b"", byte_of(picture, at + 1));
