@@ -25,8 +25,9 @@
 extern "C" {
 #endif
 
-/* Raised by every change of a number, a struct or a rule of this file. rainbow_version() is the archive's own. */
-#define RAINBOW_VERSION 1
+/* Raised by every new call and every change of a number, a struct or a rule of this file. rainbow_version() is the
+ * archive's own. */
+#define RAINBOW_VERSION 2
 
 /* The length of each buffer, in bytes. */
 #define RAINBOW_SHARED_BYTES 65536
@@ -117,6 +118,9 @@ rainbow_machine rainbow_vertical_tick(rainbow_machine machine);
 
 /* The column setting: 80 or 132. */
 size_t rainbow_columns(rainbow_machine machine);
+
+/* The scroll latch, 0 to 15: the field latch modulo 16. */
+uint8_t rainbow_scroll_latch(rainbow_machine machine);
 
 /* Whether the display is blanked: bit 1 of port 0A is clear. */
 bool rainbow_blanked(rainbow_machine machine);

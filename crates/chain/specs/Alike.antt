@@ -1,5 +1,5 @@
--- Rows are what they read: two chains that hold the same bytes wherever a row of the one reads have that row in common, and
--- what it leads to.
+-- Rows are what they read: two chains that hold the same bytes wherever a row of the one reads have that row in common,
+-- and what it leads to.
 use Prim.Native.Nat.{ℕ, _<_}
 use mathlib.Core.Path.{_≡_}
 use mathlib.Core.List.{List, map}
@@ -23,8 +23,8 @@ RowIsWhatItReads =
     (c d : Chain) (head : Head) → let row = rowFrom c head in
     ReadAlike c d row → (rowFrom d head ≡ row) × (aheadAfter d row ≡ aheadAfter c row)
 
--- and so it is with the walk: with the same bytes wherever its first rows read, those rows are the same, and so is what lies
--- ahead after them
+-- and so it is with the walk: with the same bytes wherever its first rows read, those rows are the same, and so is what
+-- lies ahead after them
 abbrev pub RowsAreWhatTheyRead : Type 0
 RowsAreWhatTheyRead =
     (c d : Chain) (rows : ℕ) → ((row : ℕ) → row < rows → ReadAlike c d (rowAt c row))

@@ -39,6 +39,7 @@ pub enum Ahead {
 }
 
 impl Head {
+    // Where row 0 starts, and its kind.
     pub fn first() -> Head
         ensures { λ r. ⌜ r ≡ first ⌝ }
     {
@@ -49,6 +50,7 @@ impl Head {
     }
 }
 
+// The byte at a place of screen or attribute memory, taken modulo 4,096.
 pub fn byte_at(memory: &[u8], place: usize) -> u8
     requires { ⌜ length (now memory) ≡ places ⌝ }
     ensures { λ r. ⌜ r ≡ byteAt (now (memory .entry)) place ⌝ }
@@ -56,12 +58,14 @@ pub fn byte_at(memory: &[u8], place: usize) -> u8
     memory[place % lent::SCREEN_BYTES]
 }
 
+// Whether a kind is one of the three wide ones.
 pub fn is_wide(kind: u8) -> bool
     ensures { λ r. ⌜ r ≡ wide kind ⌝ }
 {
     kind % 4 < NORMAL
 }
 
+// How many cells a row of a kind can have.
 pub fn capacity(columns: usize, kind: u8) -> usize
     ensures { λ r. ⌜ r ≡ capacity columns kind ⌝ }
     ensures { λ r. ⌜ r ≤ columns ⌝ }

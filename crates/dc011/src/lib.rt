@@ -4,6 +4,7 @@ ghost use Rattle.dc011.specs.Dc011.{setColumns, setRate, writeDc011};
 use machine::Machine;
 use machine::Written;
 
+// What a code written to port 04 does.
 pub fn write_dc011(machine: Machine, code: u8) -> Written
     ensures { λ r. ⌜ r ≡ writeDc011 machine code ⌝ }
 {

@@ -16,16 +16,17 @@ loadLow latch bits = latch / 4 * 4 + bits
 abbrev pub loadHigh : ℕ → ℕ → ℕ
 loadHigh latch bits = bits * 4 + latch % 4
 
--- "00 to 03 load the low two bits of the scroll latch, 04 to 07 its high two bits, 08 toggles the blink flip-flop, 09 clears
--- the vertical interrupt, 0A sets reverse field, 0B clears it .. Codes 0C and up are refused"
+-- "00 to 03 load the low two bits of the scroll latch, 04 to 07 its high two bits, 08 toggles the blink flip-flop, 09
+-- clears the vertical interrupt, 0A sets reverse field, 0B clears it .. Codes 0C and up are refused"
 abbrev pub writeDc012 : Machine → ℕ → Written
 writeDc012 m code =
-    cond (leb code 0x03) (done (withLatch m (loadLow (scrollLatch m) code)))
+    cond (leb 0x0C code) (refused codeRefused m)
+    (cond (leb code 0x03) (done (withLatch m (loadLow (scrollLatch m) code)))
     (cond (leb code 0x07) (done (withLatch m (loadHigh (scrollLatch m) (code - 0x04))))
     (cond (eqb code 0x08) (done (withBlink m (not (m .blink))))
     (cond (eqb code 0x09) (done (withInterrupt m false))
     (cond (eqb code 0x0A) (done (withReverse m true))
-    (cond (eqb code 0x0B) (done (withReverse m false)) (refused codeRefused m))))))
+    (done (withReverse m false)))))))
 
 -- "and a load leaves it under 16": a statement, proved in proofs/Dc012.antt
 abbrev pub LoadLeavesUnder16 : Type 0

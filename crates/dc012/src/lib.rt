@@ -4,6 +4,7 @@ ghost use Rattle.dc012.specs.Dc012.{writeDc012};
 use machine::Machine;
 use machine::Written;
 
+// What a code written to port 0C or 10C does, but for the watchdog.
 pub fn write_dc012(mut machine: Machine, code: u8) -> Written
     ensures { λ r. ⌜ r ≡ writeDc012 machine code ⌝ }
 {

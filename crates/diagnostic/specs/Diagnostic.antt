@@ -23,8 +23,8 @@ writtenPort answer shadow nvm = record { answer = answer; shadow = shadow; nvm =
 abbrev pub rises : ℕ → ℕ → ℕ → Bool
 rises n before after = eqb (bit n before) 0 && eqb (bit n after) 1
 
--- "A write in which bit 6 goes from 0 to 1 copies shadow to NVM; bit 7 from 0 to 1 copies NVM to shadow .. Every byte is a
--- code of this port. The other bits are only held." Both at once are refusal 6.
+-- "A write in which bit 6 goes from 0 to 1 copies shadow to NVM; bit 7 from 0 to 1 copies NVM to shadow .. Every byte
+-- is a code of this port. The other bits are only held." Both at once are refusal 6.
 abbrev pub writeDiagnostic : Machine → List ℕ → List ℕ → ℕ → WrittenPort
 writeDiagnostic m shadow nvm code =
     let saves = rises 6 (m .held) code in

@@ -12,7 +12,8 @@ use copies::copy;
 use machine::Machine;
 use machine::Written;
 
-// The caller has tested both lengths: a copy moves every byte of the one into the other.
+// What a byte written to port 0A does. The caller has tested both lengths: a copy moves every byte of the one into
+// the other.
 pub fn write_diagnostic(machine: Machine, shadow: &mut [u8], nvm: &mut [u8], code: u8) -> Written
     requires { ⌜ length (now shadow) ≡ length (now nvm) ⌝ }
     ensures { λ r. ⌜ writtenPort r (now (shadow .exit)) (now (nvm .exit))

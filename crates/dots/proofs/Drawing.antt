@@ -1,5 +1,5 @@
--- The eight dots, written from the left, each at one place or at two: what holds with so many drawn, how it begins, goes on and
--- ends.
+-- The eight dots, written from the left, each at one place or at two: what holds with so many drawn, how it begins,
+-- goes on and ends.
 use Prim.Native.Nat.{ℕ, zero, suc, _+_, _*_, _≤_, _<_}
 use mathlib.Core.Path.{_≡_, refl, sym, ap, _∙_}
 use mathlib.Core.List.{List, [], _∷_, _++_, append-assoc}

@@ -28,7 +28,8 @@ twice (dot ∷ dots) = dot ∷ dot ∷ twice dots
 abbrev pub shownDots : (columns132 : Bool) → (kind glyph : ℕ) → List Bool
 shownDots columns132 kind glyph = cond (wide kind) (twice (glyphDots columns132 glyph)) (glyphDots columns132 glyph)
 
--- the dots of a cell as they are shown: of a row of a kind, with an attribute, at a scan of the glyph whose byte is given
+-- the dots of a cell as they are shown: of a row of a kind, with an attribute, at a scan of the glyph whose byte is
+-- given
 unfoldable pub cellDots : Machine → (kind attribute glyphScan glyph : ℕ) → List ℕ
 cellDots m kind attribute glyphScan glyph = map (shade m attribute glyphScan) (shownDots (m .columns132) kind glyph)
 

@@ -2,15 +2,15 @@
 use Prim.Native.Nat.{ℕ, _*_, _≤_, _<_}
 use mathlib.Core.Path.{_≡_, refl}
 use mathlib.Core.List.{List}
-use mathlib.Core.Bool.{Bool, true, false, cond}
+use mathlib.Core.Bool.{Bool, true, false, not, cond}
 use native.Mathlib.Omega.{arith}
 use lib.ListN.{length, take, drop, length-drop}
 use lib.Seq.{length-take-le, getD-take, getD-drop}
 use lib.Dec.{eqb}
 use borrow.Author.Tests.{eqb-true, eq-eqb}
 use Rattle.lent.specs.Lengths.{glyphBytes}
-use Rattle.lent.specs.Refusals.{accepted, lengthRefused}
-use Rattle.glyphs.specs.Glyphs.{codeBytes, glyphByte, glyphPart, partRefusal, TellsItsRefusal, HoldsTheScans}
+use Rattle.lent.specs.Refusals.{accepted, refuses, lengthRefused}
+use Rattle.glyphs.specs.Glyphs.{codeBytes, glyphByte, glyphPart, partStart, partRefusal, TellsItsRefusal, HoldsTheScans}
 
 pub sixteen :
     (table : List ℕ) (code : ℕ) → length table ≡ glyphBytes → code < 256
@@ -29,6 +29,17 @@ tells-its-refusal table code h = go (eqb (length table) glyphBytes) refl
         → partRefusal (glyphPart table code) ≡ cond (eqb (length table) glyphBytes) accepted lengthRefused
     go true e = rw (e, sixteen table code (eqb-true _ _ e) h) refl
     go false e = rw e refl
+
+-- where the part begins, told by its refusal
+pub starts-where :
+    (table : List ℕ) (code : ℕ) → code < 256
+    → partStart table code ≡ cond (refuses (partRefusal (glyphPart table code))) 0 (code * codeBytes)
+unfolding partStart
+starts-where table code h = rw (tells-its-refusal table code h) (go (eqb (length table) glyphBytes))
+  where
+    go : (b : Bool) → cond (not b) 0 (code * codeBytes) ≡ cond (refuses (cond b accepted lengthRefused)) 0 (code * codeBytes)
+    go true = refl
+    go false = refl
 
 pub holds-the-scans : HoldsTheScans
 unfolding glyphPart glyphByte

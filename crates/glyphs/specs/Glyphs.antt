@@ -2,7 +2,7 @@
 use Prim.Native.Nat.{ℕ, _+_, _*_, _<_}
 use mathlib.Core.Path.{_≡_}
 use mathlib.Core.List.{List, []}
-use mathlib.Core.Bool.{cond}
+use mathlib.Core.Bool.{not, cond}
 use lib.ListN.{length, getD, take, drop}
 use lib.Dec.{eqb}
 use Rattle.lent.specs.Lengths.{glyphBytes}
@@ -18,7 +18,29 @@ glyphByte table code address = getD table (code * codeBytes + address) 0
 -- "The sixteen scan bytes of a code are handed back as that part of the caller's own table."
 -- "A refusal returns its number, with .. a part of no bytes"
 unfoldable pub glyphPart : (table : List ℕ) → (code : ℕ) → List ℕ
-glyphPart table code = cond (eqb (length table) glyphBytes) (take codeBytes (drop (code * codeBytes) table)) []
+glyphPart table code =
+    cond (not (eqb (length table) glyphBytes)) []
+    (take codeBytes (drop (code * codeBytes) table))
+
+-- the part begins so many bytes after the table's first
+unfoldable pub partStart : (table : List ℕ) → (code : ℕ) → ℕ
+partStart table code =
+    cond (not (eqb (length table) glyphBytes)) 0
+    (code * codeBytes)
+
+-- a slice: the block of memory that it lies in, how far from the block's start, and its bytes
+pub record Slice : Type 0 where
+  pub block : ℕ
+  pub offset : ℕ
+  pub bytes : List ℕ
+
+abbrev pub slice : (at : ℕ × ℕ) → (bytes : List ℕ) → Slice
+slice at bytes = record { block = at .0; offset = at .1; bytes = bytes }
+
+-- the part lies in the table's own block
+abbrev pub partOf : (at : ℕ × ℕ) → (table : List ℕ) → (code : ℕ) → Slice
+partOf at table code =
+    record { block = at .0; offset = at .1 + partStart table code; bytes = glyphPart table code }
 
 -- the number of refusal that a part tells: 1 for a part of no bytes
 unfoldable pub partRefusal : (part : List ℕ) → ℕ

@@ -4,7 +4,7 @@ ghost use Prim.Native.Nat.{_≤_, _<_};
 ghost use mathlib.Core.Path.{_≡_};
 ghost use lib.ListN.{length};
 ghost use Rattle.lent.specs.Lengths.{glyphBytes};
-ghost use Rattle.glyphs.specs.Glyphs.{codeBytes, glyphByte, glyphPart, partRefusal};
+ghost use Rattle.glyphs.specs.Glyphs.{codeBytes, glyphByte, slice, partOf, partRefusal};
 ghost use Rattle.glyphs.specs.Scans.{firstScan, lastScan, scanAddress, glyphScan};
 
 // A code has so many bytes in the table.
@@ -18,7 +18,7 @@ const SCAN_ADDRESSES: [usize; 10] = [0xF, 0x0, 0x1, 0x2, 0x3, 0x4, 0x5, 0x6, 0x7
 
 // The sixteen scan bytes of a code, or no bytes where the table's length is wrong.
 pub fn part(table: &[u8], code: u8) -> &[u8]
-    ensures { λ r. ⌜ now r ≡ glyphPart (now (table .entry)) code ⌝ }
+    ensures { λ r. ⌜ slice (r .ptr) (now r) ≡ partOf (table .entry .ptr) (now (table .entry)) code ⌝ }
 {
     if table.len() != lent::GLYPH_BYTES {
         return &table[0..0];
@@ -37,6 +37,7 @@ pub fn refusal(part: &[u8]) -> u8
     lent::ACCEPTED
 }
 
+// The glyph byte of a code at a scan address.
 pub fn byte(table: &[u8], code: u8, address: usize) -> u8
     requires { ⌜ length (now table) ≡ glyphBytes ⌝ }
     requires { ⌜ address < codeBytes ⌝ }
@@ -45,6 +46,7 @@ pub fn byte(table: &[u8], code: u8, address: usize) -> u8
     table[code as usize * CODE_BYTES + address]
 }
 
+// The scan address of a scan number.
 pub fn scan_address(scan: usize) -> usize
     requires { ⌜ (firstScan ≤ scan) × (scan ≤ lastScan) ⌝ }
     ensures { λ r. ⌜ r ≡ scanAddress scan ⌝ }

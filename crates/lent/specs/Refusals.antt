@@ -1,8 +1,14 @@
 -- Document 01, "Numbers of refusal": the table's numbers, and 0 for a call that is not refused.
 use Prim.Native.Nat.{ℕ}
+use mathlib.Core.Bool.{Bool, not}
+use lib.Dec.{eqb}
 
 abbrev pub accepted : ℕ
 accepted = 0
+
+-- whether a call whose number this is was refused
+abbrev pub refuses : ℕ → Bool
+refuses number = not (eqb number accepted)
 
 -- a lent buffer's length differs from the list
 abbrev pub lengthRefused : ℕ

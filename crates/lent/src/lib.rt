@@ -39,7 +39,7 @@ pub const PLACE: u8 = 5;
 // Bits 6 and 7 of 0A both rise in one write.
 pub const EDGES: u8 = 6;
 
-// Whether lengths are those of the list: a is to be x, b y and c z.
+// Whether two lengths are those of the list: a is to be x, and b y.
 pub fn two_lengths(a: usize, x: usize, b: usize, y: usize) -> bool
     ensures { λ r. ⌜ r ≡ eqb a x && eqb b y ⌝ }
 {
@@ -49,6 +49,7 @@ pub fn two_lengths(a: usize, x: usize, b: usize, y: usize) -> bool
     b == y
 }
 
+// Whether three are: c is to be z.
 pub fn three_lengths(a: usize, x: usize, b: usize, y: usize, c: usize, z: usize) -> bool
     ensures { λ r. ⌜ r ≡ eqb a x && (eqb b y && eqb c z) ⌝ }
 {
@@ -65,6 +66,7 @@ pub struct ByteRead {
     pub byte: u8,
 }
 
+// The answer that a byte was read.
 pub fn byte_read(byte: u8) -> ByteRead
     ensures { λ r. ⌜ r ≡ byteRead byte ⌝ }
 {
@@ -74,6 +76,7 @@ pub fn byte_read(byte: u8) -> ByteRead
     }
 }
 
+// The answer that a read was refused.
 pub fn read_refused(refusal: u8) -> ByteRead
     ensures { λ r. ⌜ r ≡ readRefused refusal ⌝ }
 {

@@ -2,7 +2,7 @@
 // power-up, and the vertical tick.
 ghost use mathlib.Core.Path.{_≡_};
 ghost use Rattle.machine.specs.Power.{powerUp, verticalTick};
-ghost use Rattle.machine.specs.Settings.{columns, blanked, graphics};
+ghost use Rattle.machine.specs.Settings.{columns, scrollLatch, blanked, graphics};
 
 #[repr(C)]
 pub struct Machine {
@@ -34,6 +34,7 @@ pub struct Written {
 }
 
 impl Machine {
+    // The machine at power-up.
     pub fn power_up() -> Machine
         ensures { λ r. ⌜ r ≡ powerUp ⌝ }
     {
@@ -50,6 +51,7 @@ impl Machine {
         }
     }
 
+    // The machine after a vertical tick, which sets the vertical interrupt.
     pub fn vertical_tick(mut self) -> Machine
         ensures { λ r. ⌜ r ≡ verticalTick self ⌝ }
     {
@@ -57,18 +59,28 @@ impl Machine {
         self
     }
 
+    // How many columns the screen is set to: 80 or 132.
     pub fn columns(self) -> usize
         ensures { λ r. ⌜ r ≡ columns self ⌝ }
     {
         if self.columns132 { 132 } else { 80 }
     }
 
+    // The scroll latch as it is read: modulo 16.
+    pub fn scroll_latch(self) -> u8
+        ensures { λ r. ⌜ r ≡ scrollLatch self ⌝ }
+    {
+        self.latch % 16
+    }
+
+    // Whether bit 1 of the byte that port 0A holds is clear, which blanks the display.
     pub fn blanked(self) -> bool
         ensures { λ r. ⌜ r ≡ blanked self ⌝ }
     {
         self.held / 2 % 2 == 0
     }
 
+    // Whether bit 2 of the byte that port 0A holds is set, which selects the graphics board.
     pub fn graphics(self) -> bool
         ensures { λ r. ⌜ r ≡ graphics self ⌝ }
     {

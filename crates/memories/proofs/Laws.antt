@@ -1,15 +1,18 @@
--- Laws about what the two processors see: when a range holds an address, what the lengths tell, and that a place seen lies in
--- its memory.
+-- Laws about what the two processors see: when a range holds an address, what the lengths tell, that a place seen lies
+-- in its memory, and by what a store is refused.
 use Prim.Native.Nat.{ℕ, _+_, _-_, _≤_, _<_}
 use mathlib.Core.Path.{_≡_, refl, subst, sym, _∙_}
-use mathlib.Core.Bool.{Bool, true, false, cond, and-false, and-eq-true-iff}
+use mathlib.Core.List.{List}
+use mathlib.Core.Bool.{Bool, true, false, not, cond, and-false, and-eq-true-iff, true≢false}
 use native.Mathlib.Omega.{arith}
-use lib.Dec.{leb}
-use borrow.Author.Tests.{le-leb, lt-leb, leb-true}
+use lib.ListN.{length}
+use lib.Dec.{leb, eqb}
+use borrow.Author.Tests.{not-false, eqb-true, le-leb, lt-leb, leb-true, lt-ltb, le-ltb}
 use Rattle.lent.specs.Lengths.{sharedBytes, screenBytes, attributeBytes, privateBytes}
-use Rattle.lent.proofs.Tests.{both-equal, three-equal}
-use Rattle.memories.specs.View8088.{within, seen8088, lengths8088}
-use Rattle.memories.specs.ViewZ80.{lengthsZ80, isPrivate}
+use Rattle.lent.specs.Refusals.{accepted, refuses, lengthRefused, addressRefused}
+use Rattle.lent.proofs.Tests.{either, both-equal, three-equal}
+use Rattle.memories.specs.View8088.{within, seen8088, lengths8088, isNowhere, refusal8088, Stored8088, storeSeen, store8088}
+use Rattle.memories.specs.ViewZ80.{lengthsZ80, sharedFrom, isPrivate}
 use Rattle.memories.specs.declared.view8088.Seen.{Seen}
 use Rattle.memories.specs.declared.view8088.Seen.the-variants.{Shared, Screen, Attribute, Nowhere}
 
@@ -66,10 +69,42 @@ pub lentZ80 : {private shared : ℕ} → lengthsZ80 private shared ≡ true → 
 unfolding lengthsZ80
 lentZ80 {private} {shared} = both-equal private privateBytes shared sharedBytes
 
-pub below0800 : (a : ℕ) → a < privateBytes → isPrivate a ≡ true
+pub below0800 : (a : ℕ) → a < sharedFrom → isPrivate a ≡ true
 unfolding isPrivate
-below0800 a h = le-leb a 0x07FF (omega arith)
+below0800 a h = lt-ltb a sharedFrom h
 
-pub from0800 : (a : ℕ) → privateBytes ≤ a → isPrivate a ≡ false
+pub from0800 : (a : ℕ) → sharedFrom ≤ a → isPrivate a ≡ false
 unfolding isPrivate
-from0800 a h = lt-leb a 0x07FF h
+from0800 a h = le-ltb a sharedFrom h
+
+-- a number that refuses nothing is that of an accepted call
+pub is-accepted : (refusal : ℕ) → refuses refusal ≡ false → refusal ≡ accepted
+is-accepted refusal h = eqb-true refusal accepted (not-false (eqb refusal accepted) h)
+
+-- a byte that is stored somewhere is accepted
+pub seen-accepted :
+    (seen : Seen) (shared screen attribute : List ℕ) (byte : ℕ) → storeSeen seen shared screen attribute byte .refusal ≡ accepted
+seen-accepted (Shared place) shared screen attribute byte = refl
+seen-accepted (Screen place) shared screen attribute byte = refl
+seen-accepted (Attribute place) shared screen attribute byte = refl
+seen-accepted Nowhere shared screen attribute byte = refl
+
+-- the number that a store answers is that of the access
+pub store-refusal :
+    (shared screen attribute : List ℕ) (address byte : ℕ)
+    → store8088 shared screen attribute address byte .refusal ≡ refusal8088 shared screen attribute address
+store-refusal shared screen attribute address byte =
+    let refusal = refusal8088 shared screen attribute address in
+    either (λ (left : Stored8088). left .refusal ≡ refusal) (refuses refusal) _ _ (λ _. refl)
+    (λ h. seen-accepted (seen8088 address) shared screen attribute byte ∙ sym (is-accepted refusal h))
+
+-- an access that is not refused has the right lengths
+pub accepted-lengths :
+    (shared screen attribute : List ℕ) (address : ℕ) → refuses (refusal8088 shared screen attribute address) ≡ false
+    → lengths8088 (length shared) (length screen) (length attribute) ≡ true
+accepted-lengths shared screen attribute address h =
+    go (lengths8088 (length shared) (length screen) (length attribute)) (isNowhere (seen8088 address)) h
+  where
+    go : (right nowhere : Bool) → refuses (cond (not right) lengthRefused (cond nowhere addressRefused accepted)) ≡ false → right ≡ true
+    go true nowhere e = refl
+    go false nowhere e = absurd (true≢false e)

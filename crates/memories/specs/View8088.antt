@@ -1,11 +1,11 @@
 -- Document 01, "Lent memory": what the 8088 sees, reads and stores.
 use Prim.Native.Nat.{ℕ, _-_}
 use mathlib.Core.List.{List}
-use mathlib.Core.Bool.{Bool, true, false, cond, _&&_}
+use mathlib.Core.Bool.{Bool, true, false, not, cond, _&&_}
 use lib.ListN.{length, getD, set}
 use lib.Dec.{leb, eqb}
 use Rattle.lent.specs.Lengths.{sharedBytes, screenBytes, attributeBytes}
-use Rattle.lent.specs.Refusals.{accepted, lengthRefused, addressRefused}
+use Rattle.lent.specs.Refusals.{accepted, refuses, lengthRefused, addressRefused}
 use Rattle.lent.specs.Answer.{byteRead, readRefused}
 use Rattle.lent.specs.declared.ByteRead.{ByteRead}
 use Rattle.memories.specs.declared.view8088.Seen.{Seen}
@@ -26,17 +26,32 @@ unfoldable pub lengths8088 : ℕ → ℕ → ℕ → Bool
 lengths8088 shared screen attribute =
     eqb shared sharedBytes && (eqb screen screenBytes && eqb attribute attributeBytes)
 
-abbrev pub byteSeen : Seen → List ℕ → List ℕ → List ℕ → ByteRead
-byteSeen (Shared place) shared screen attribute = byteRead (getD shared place 0)
-byteSeen (Screen place) shared screen attribute = byteRead (getD screen place 0)
-byteSeen (Attribute place) shared screen attribute = byteRead (getD attribute place 0)
-byteSeen Nowhere shared screen attribute = readRefused addressRefused
+-- whether the address "lies in none of its three ranges"
+abbrev pub isNowhere : Seen → Bool
+isNowhere (Shared place) = false
+isNowhere (Screen place) = false
+isNowhere (Attribute place) = false
+isNowhere Nowhere = true
 
-abbrev pub read8088 : List ℕ → List ℕ → List ℕ → ℕ → ByteRead
+-- by what an access of the 8088 is refused, in the table's order
+abbrev pub refusal8088 : (shared screen attribute : List ℕ) → (address : ℕ) → ℕ
+refusal8088 shared screen attribute address =
+    cond (not (lengths8088 (length shared) (length screen) (length attribute))) lengthRefused
+    (cond (isNowhere (seen8088 address)) addressRefused
+    accepted)
+
+-- the byte that the 8088 sees, 0 where it sees none
+abbrev pub byteSeen : Seen → (shared screen attribute : List ℕ) → ℕ
+byteSeen (Shared place) shared screen attribute = getD shared place 0
+byteSeen (Screen place) shared screen attribute = getD screen place 0
+byteSeen (Attribute place) shared screen attribute = getD attribute place 0
+byteSeen Nowhere shared screen attribute = 0
+
+abbrev pub read8088 : (shared screen attribute : List ℕ) → (address : ℕ) → ByteRead
 read8088 shared screen attribute address =
-    cond (lengths8088 (length shared) (length screen) (length attribute))
-    (byteSeen (seen8088 address) shared screen attribute)
-    (readRefused lengthRefused)
+    let refusal = refusal8088 shared screen attribute address in
+    cond (refuses refusal) (readRefused refusal)
+    (byteRead (byteSeen (seen8088 address) shared screen attribute))
 
 -- what a store leaves: its answer and the three memories
 pub record Stored8088 : Type 0 where
@@ -48,15 +63,16 @@ pub record Stored8088 : Type 0 where
 abbrev pub stored8088 : ℕ → List ℕ → List ℕ → List ℕ → Stored8088
 stored8088 r shared screen attribute = record { refusal = r; shared = shared; screen = screen; attribute = attribute }
 
--- the byte is stored where the 8088 sees the address; "all buffers .. stay" where it sees none
-abbrev pub storeSeen : Seen → List ℕ → List ℕ → List ℕ → ℕ → Stored8088
+-- the byte is stored where the 8088 sees the address
+abbrev pub storeSeen : Seen → (shared screen attribute : List ℕ) → (byte : ℕ) → Stored8088
 storeSeen (Shared place) shared screen attribute byte = stored8088 accepted (set shared place byte) screen attribute
 storeSeen (Screen place) shared screen attribute byte = stored8088 accepted shared (set screen place byte) attribute
 storeSeen (Attribute place) shared screen attribute byte = stored8088 accepted shared screen (set attribute place byte)
-storeSeen Nowhere shared screen attribute byte = stored8088 addressRefused shared screen attribute
+storeSeen Nowhere shared screen attribute byte = stored8088 accepted shared screen attribute
 
-abbrev pub store8088 : List ℕ → List ℕ → List ℕ → ℕ → ℕ → Stored8088
+-- "A refusal returns its number ..; all buffers .. stay."
+abbrev pub store8088 : (shared screen attribute : List ℕ) → (address byte : ℕ) → Stored8088
 store8088 shared screen attribute address byte =
-    cond (lengths8088 (length shared) (length screen) (length attribute))
+    let refusal = refusal8088 shared screen attribute address in
+    cond (refuses refusal) (stored8088 refusal shared screen attribute)
     (storeSeen (seen8088 address) shared screen attribute byte)
-    (stored8088 lengthRefused shared screen attribute)

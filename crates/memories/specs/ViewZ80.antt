@@ -1,11 +1,11 @@
 -- Document 01, "Lent memory": what the Z80 sees, reads and stores.
 use Prim.Native.Nat.{ℕ}
 use mathlib.Core.List.{List}
-use mathlib.Core.Bool.{Bool, true, false, cond, _&&_}
+use mathlib.Core.Bool.{Bool, not, cond, _&&_}
 use lib.ListN.{length, getD, set}
-use lib.Dec.{leb, eqb}
+use lib.Dec.{ltb, eqb}
 use Rattle.lent.specs.Lengths.{sharedBytes, privateBytes}
-use Rattle.lent.specs.Refusals.{accepted, lengthRefused}
+use Rattle.lent.specs.Refusals.{accepted, refuses, lengthRefused}
 use Rattle.lent.specs.Answer.{byteRead, readRefused}
 use Rattle.lent.specs.declared.ByteRead.{ByteRead}
 
@@ -13,17 +13,27 @@ use Rattle.lent.specs.declared.ByteRead.{ByteRead}
 unfoldable pub lengthsZ80 : ℕ → ℕ → Bool
 lengthsZ80 private shared = eqb private privateBytes && eqb shared sharedBytes
 
--- "The Z80 sees private at 0000 to 07FF"
-unfoldable pub isPrivate : ℕ → Bool
-isPrivate address = leb address 0x07FF
+-- by what an access of the Z80 is refused, in the table's order: "A Z80 address has sixteen bits, so none is refused."
+abbrev pub refusalZ80 : (private shared : List ℕ) → ℕ
+refusalZ80 private shared =
+    cond (not (lengthsZ80 (length private) (length shared))) lengthRefused
+    accepted
 
--- "and, from 0800 to FFFF, the shared byte of the same address"
+-- "The Z80 sees private at 0000 to 07FF and, from 0800 to FFFF, the shared byte of the same address."
+abbrev pub sharedFrom : ℕ
+sharedFrom = 0x0800
+
+unfoldable pub isPrivate : ℕ → Bool
+isPrivate address = ltb address sharedFrom
+
 unfoldable pub seenZ80 : List ℕ → List ℕ → ℕ → ℕ
 seenZ80 private shared address = cond (isPrivate address) (getD private address 0) (getD shared address 0)
 
-abbrev pub readZ80 : List ℕ → List ℕ → ℕ → ByteRead
+abbrev pub readZ80 : (private shared : List ℕ) → (address : ℕ) → ByteRead
 readZ80 private shared address =
-    cond (lengthsZ80 (length private) (length shared)) (byteRead (seenZ80 private shared address)) (readRefused lengthRefused)
+    let refusal = refusalZ80 private shared in
+    cond (refuses refusal) (readRefused refusal)
+    (byteRead (seenZ80 private shared address))
 
 -- what a store leaves: its answer and the two memories
 pub record StoredZ80 : Type 0 where
@@ -35,10 +45,10 @@ abbrev pub storedZ80 : ℕ → List ℕ → List ℕ → StoredZ80
 storedZ80 r private shared = record { refusal = r; private = private; shared = shared }
 
 -- "A Z80 store changes that one byte and no other"
-abbrev pub storeZ80 : List ℕ → List ℕ → ℕ → ℕ → StoredZ80
+abbrev pub storeZ80 : (private shared : List ℕ) → (address byte : ℕ) → StoredZ80
 storeZ80 private shared address byte =
-    cond (lengthsZ80 (length private) (length shared))
+    let refusal = refusalZ80 private shared in
+    cond (refuses refusal) (storedZ80 refusal private shared)
     (cond (isPrivate address)
     (storedZ80 accepted (set private address byte) shared)
     (storedZ80 accepted private (set shared address byte)))
-    (storedZ80 lengthRefused private shared)

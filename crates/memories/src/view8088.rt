@@ -17,6 +17,7 @@ pub enum Seen {
     Nowhere,
 }
 
+// Which byte of which memory the 8088 sees at an address.
 pub fn seen_8088(address: u32) -> Seen
     ensures { λ r. ⌜ r ≡ seen8088 address ⌝ }
 {
@@ -36,6 +37,7 @@ pub fn seen_8088(address: u32) -> Seen
     Seen::Nowhere
 }
 
+// Whether the three memories of the 8088 have the lengths of the list.
 pub fn lengths_8088(shared: usize, screen: usize, attribute: usize) -> bool
     ensures { λ r. ⌜ r ≡ lengths8088 shared screen attribute ⌝ }
 {
@@ -49,6 +51,7 @@ pub fn lengths_8088(shared: usize, screen: usize, attribute: usize) -> bool
     )
 }
 
+// Reads a byte as the 8088 does.
 pub fn read_8088(shared: &[u8], screen: &[u8], attribute: &[u8], address: u32) -> ByteRead
     ensures { λ r. ⌜ r ≡ read8088 (now (shared .entry)) (now (screen .entry)) (now (attribute .entry)) address ⌝ }
 {
@@ -63,7 +66,7 @@ pub fn read_8088(shared: &[u8], screen: &[u8], attribute: &[u8], address: u32) -
     }
 }
 
-// The store with no picture lent. The answer is the number of refusal, 0 where it is accepted.
+// Stores a byte as the 8088 does, with no picture lent. The answer is the number of refusal, 0 where it is accepted.
 pub fn store_8088(
     shared: &mut [u8],
     screen: &mut [u8],

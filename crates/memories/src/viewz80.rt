@@ -13,6 +13,7 @@ fn lengths_z80(private: usize, shared: usize) -> bool
     lent::two_lengths(private, lent::PRIVATE_BYTES, shared, lent::SHARED_BYTES)
 }
 
+// Reads a byte as the Z80 does.
 pub fn read_z80(private: &[u8], shared: &[u8], address: u16) -> ByteRead
     ensures { λ r. ⌜ r ≡ readZ80 (now (private .entry)) (now (shared .entry)) address ⌝ }
 {
@@ -27,7 +28,7 @@ pub fn read_z80(private: &[u8], shared: &[u8], address: u16) -> ByteRead
     }
 }
 
-// The answer is the number of refusal, 0 where the store is accepted.
+// Stores a byte as the Z80 does. The answer is the number of refusal, 0 where it is accepted.
 pub fn store_z80(private: &mut [u8], shared: &mut [u8], address: u16, byte: u8) -> u8
     ensures { λ r. ⌜ storedZ80 r (now (private .exit)) (now (shared .exit))
         ≡ storeZ80 (now (private .entry)) (now (shared .entry)) address byte ⌝ }

@@ -1,5 +1,5 @@
--- What was drawn is put in the place of what was kept, byte by byte: what holds after so many bytes, how it begins, goes on
--- and ends.
+-- What was drawn is put in the place of what was kept, byte by byte: what holds after so many bytes, how it begins,
+-- goes on and ends.
 use Prim.Native.Nat.{ℕ, _+_, _≤_, _<_}
 use mathlib.Core.Path.{_≡_, refl, sym, ap, _∙_}
 use mathlib.Core.List.{List}

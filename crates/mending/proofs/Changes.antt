@@ -3,10 +3,9 @@ use Prim.Native.Nat.{ℕ, _<_}
 use mathlib.Core.Path.{_≡_, refl, sym, ap, _∙_}
 use mathlib.Core.List.{List}
 use mathlib.Core.Bool.{Bool, true, false, not, _&&_, true≢false}
-use lib.ListN.{length}
 use lib.Dec.{ltb}
-use borrow.Author.Tests.{lt-ltb, le-ltb, eqb-true, not-true, not-false}
-use Rattle.lent.specs.Lengths.{pictureBytes}
+use borrow.Author.Tests.{lt-ltb, le-ltb, not-true, not-false}
+use Rattle.lent.specs.Refusals.{refuses}
 use Rattle.machine.specs.declared.Machine.{Machine}
 use Rattle.memories.specs.View8088.{seen8088, store8088}
 use Rattle.chain.specs.Chain.{rows}
@@ -17,35 +16,34 @@ use Rattle.marks.specs.Marks.{bitSet}
 use Rattle.marks.proofs.Marks.{bit-by-bit}
 use Rattle.readers.specs.Readers.{firstReader}
 use Rattle.mending.specs.Mending.{sameBytes, changed, marksOf}
-use Rattle.mending.specs.Store.{lengthsWithPicture, StoredWithPicture, storeWithPicture}
+use Rattle.mending.specs.Store.{StoredWithPicture, refusalWithPicture, storeWithPicture}
 use Rattle.mending.specs.Changes.{LeavesAhead, MarksTheChanged}
 use Rattle.mending.proofs.Same.{same-self, same-true}
 use Rattle.mending.proofs.Laws.{record-stays}
-use Rattle.mending.proofs.Outcome.{lent-with-picture, unchanged, refused-outcome, right-outcome}
+use Rattle.mending.proofs.Outcome.{unchanged, accepts, refused-outcome, mended-outcome}
 
 module _ (m : Machine) (shared screen attribute picture : List ℕ) (address byte : ℕ) where
   abbrev left : StoredWithPicture
   left = storeWithPicture m shared screen attribute picture address byte
 
   abbrev test : Bool
-  test = lengthsWithPicture (length shared) (length screen) (length attribute) (length picture)
+  test = refuses (refusalWithPicture shared screen attribute picture address)
 
   -- the marks are those of the pictures before and after, of a refused store too
   marks-of : (b : Bool) → test ≡ b → left .answer .marks ≡ marksOf picture (left .picture)
-  marks-of true h = rw (right-outcome m shared screen attribute picture address byte h)
-  marks-of false h = rw (← refused-outcome m shared screen attribute picture address byte h, unchanged picture)
+  marks-of true h = rw (refused-outcome m shared screen attribute picture address byte h, unchanged picture)
+  marks-of false h = rw (mended-outcome m shared screen attribute picture address byte h)
 
   stays :
       (b : Bool) → test ≡ b → (row : ℕ) → row < rows → row < firstReader (chainOf m screen attribute) (seen8088 address)
       → recordIn (left .picture) row ≡ recordIn picture row
-  stays true h row more ahead =
-      let lent = lent-with-picture (length shared) (length screen) (length attribute) (length picture) h in
-      let long = eqb-true (length picture) pictureBytes (lent .1) in
+  stays true h row more ahead = rw (refused-outcome m shared screen attribute picture address byte h)
+  stays false h row more ahead =
+      let long = accepts m shared screen attribute picture address byte h .0 in
       let after = store8088 shared screen attribute address byte in
-      rw (right-outcome m shared screen attribute picture address byte h)
+      rw (mended-outcome m shared screen attribute picture address byte h)
       (record-stays (chainOf m (after .screen) (after .attribute)) (firstReader (chainOf m screen attribute) (seen8088 address)) picture
       (columns-fit m) long row more ahead)
-  stays false h row more ahead = rw (← refused-outcome m shared screen attribute picture address byte h)
 
   marked-as : (row : ℕ) → bitSet (left .answer .marks) row ≡ (ltb row rows && changed picture (left .picture) row)
   marked-as row = rw (marks-of test refl) (bit-by-bit (changed picture (left .picture)) rows row)

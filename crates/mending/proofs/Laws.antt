@@ -12,7 +12,7 @@ use Rattle.lent.specs.Lengths.{pictureBytes}
 use Rattle.chain.specs.Chain.{Chain, rows}
 use Rattle.records.specs.Record.{recordBytes, recordPairs}
 use Rattle.picture.specs.Picture.{recordAt, recordIn}
-use Rattle.picture.proofs.Records.{record-in-order}
+use Rattle.picture.proofs.Records.{records-length, record-in-order}
 use Rattle.picture.proofs.Sizes.{records-sized}
 use Rattle.mending.specs.Mending.{mendedRecord, mended, changed}
 use Rattle.mending.proofs.Same.{same-self}
@@ -25,6 +25,9 @@ module _ (c : Chain) (f : ℕ) (old : List ℕ) (wide : c .columns ≤ recordPai
       go : (b : Bool) → length (cond b (take recordBytes (drop (row * recordBytes) old)) (recordAt c row)) ≡ recordBytes
       go true = length-take-le recordBytes (drop (row * recordBytes) old) (simp length-drop (omega arith))
       go false = records-sized c row wide
+
+  pub mended-sized : length (mended c f old) ≡ pictureBytes
+  mended-sized = records-length (mendedRecord c f old) rows record-sized
 
   pub record-of : (row : ℕ) → row < rows → recordIn (mended c f old) row ≡ mendedRecord c f old row
   record-of row more = record-in-order (mendedRecord c f old) rows row more record-sized

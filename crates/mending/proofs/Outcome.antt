@@ -1,36 +1,33 @@
--- The store's outcome: what the lengths tell, that the walk before the store comes to f as the walk after it does, and what
--- the three steps of the store leave.
+-- The store's outcome: what the lengths tell, that the walk before the store comes to f as the walk after it does, and
+-- what the steps of a refused and of an accepted store leave.
 use Prim.Native.Nat.{ℕ}
 use mathlib.Core.Path.{_≡_, refl, sym, ap, _∙_}
 use mathlib.Core.List.{List}
-use mathlib.Core.Bool.{Bool, true, false, _&&_, true≢false, and-eq-true-iff}
+use mathlib.Core.Bool.{Bool, true, false, not, cond, _&&_, true≢false, and-eq-true-iff}
 use native.Mathlib.Omega.{arith}
 use lib.ListN.{length}
-use lib.Seq.{take-all}
 use lib.Dec.{eqb}
-use borrow.Author.Tests.{lt-ltb, eqb-true}
+use borrow.Author.Tests.{eqb-true, ne-eqb}
 use Rattle.lent.specs.Lengths.{pictureBytes}
-use Rattle.lent.specs.Refusals.{lengthRefused}
+use Rattle.lent.specs.Refusals.{accepted, refuses, lengthRefused}
 use Rattle.machine.specs.Settings.{columns}
 use Rattle.machine.specs.declared.Machine.{Machine}
-use Rattle.memories.specs.View8088.{lengths8088, seen8088, Stored8088, stored8088, store8088}
+use Rattle.memories.specs.View8088.{lengths8088, seen8088, refusal8088, Stored8088, stored8088, store8088}
 use Rattle.memories.specs.declared.view8088.Seen.{Seen}
 use Rattle.memories.specs.declared.view8088.Seen.the-variants.{Shared, Screen, Attribute, Nowhere}
-use Rattle.memories.proofs.Laws.{Lies, placed}
+use Rattle.memories.proofs.Laws.{Lies, placed, store-refusal}
 use Rattle.chain.specs.Chain.{Chain, chain, rows, rowAt}
 use Rattle.chain.proofs.Alike.{rows-are-what-they-read}
 use Rattle.picture.specs.Picture.{recordIn}
-use Rattle.picture.specs.Draw.{chainOf}
-use Rattle.picture.proofs.Records.{same-records, own-records}
 use Rattle.marks.proofs.Laws.{none-marked}
 use Rattle.readers.specs.Readers.{firstReader}
 use Rattle.readers.specs.Inner.{InMemory, Comes, Found}
 use Rattle.readers.specs.Stored.{chainStored}
 use Rattle.readers.specs.declared.Reader.{Reader}
-use Rattle.readers.proofs.Readers.{none-off-screen, is-first}
+use Rattle.readers.proofs.Readers.{is-first}
 use Rattle.readers.proofs.Stored.{unread-leaves}
-use Rattle.mending.specs.Mending.{mendedRecord, mended, changed, marksOf}
-use Rattle.mending.specs.Store.{lengthsWithPicture, storedWithPicture, storeWithPicture}
+use Rattle.mending.specs.Mending.{mended, changed, marksOf}
+use Rattle.mending.specs.Store.{lengthsWithPicture, storedWithPicture, refusalWithPicture, refuseWithPicture, mendWithPicture, storeWithPicture}
 use Rattle.mending.proofs.Same.{same-self}
 
 -- the lengths are those of the list where the test holds
@@ -64,95 +61,118 @@ comes-after c seen byte shared {reader} found more =
 
 pub comes-stored :
     (n : ℕ) (shared screen attribute : List ℕ) (address byte : ℕ) {refusal : ℕ} {shared′ screen′ attribute′ : List ℕ}
-    {seen : Seen} {reader : Reader} → lengths8088 (length shared) (length screen) (length attribute) ≡ true
+    {seen : Seen} {reader : Reader} → refuses (refusal8088 shared screen attribute address) ≡ false
     → stored8088 refusal shared′ screen′ attribute′ ≡ store8088 shared screen attribute address byte → seen ≡ seen8088 address
     → Found (chain n screen attribute) seen reader → Comes (chain n screen′ attribute′) reader
-comes-stored n shared screen attribute address byte {seen = seen} right stored sees found =
-    rw (ap (λ (s : Stored8088). s .screen) stored, ap (λ (s : Stored8088). s .attribute) stored, right, ← sees)
+comes-stored n shared screen attribute address byte {seen = seen} accepts stored sees found =
+    rw (ap (λ (s : Stored8088). s .screen) stored, ap (λ (s : Stored8088). s .attribute) stored, accepts, ← sees)
     (comes-after (chain n screen attribute) seen byte shared found)
 
--- with no reader the picture stays, and nothing is marked
-none-mended : (c : Chain) (picture : List ℕ) → length picture ≡ pictureBytes → mended c rows picture ≡ picture
-none-mended c picture long =
-    same-records (mendedRecord c rows picture) (recordIn picture) rows (λ row h. rw (lt-ltb row rows h))
-    ∙ own-records picture rows ∙ take-all pictureBytes picture (omega arith)
-
+-- a picture that stays has no marks
 pub unchanged : (picture : List ℕ) → marksOf picture picture ≡ 0
 unchanged picture = none-marked (changed picture picture) rows (λ row h. rw (same-self (recordIn picture row)))
 
+-- whether an access was refused, from the number that its store answered
+told :
+    (shared screen attribute : List ℕ) (address byte : ℕ) {refusal : ℕ} {shared′ screen′ attribute′ : List ℕ}
+    → stored8088 refusal shared′ screen′ attribute′ ≡ store8088 shared screen attribute address byte
+    → refusal8088 shared screen attribute address ≡ refusal
+told shared screen attribute address byte stored =
+    sym (ap (λ (s : Stored8088). s .refusal) stored ∙ store-refusal shared screen attribute address byte)
+
+pub told-accepted :
+    (shared screen attribute : List ℕ) (address byte : ℕ) {refusal : ℕ} {shared′ screen′ attribute′ : List ℕ}
+    → stored8088 refusal shared′ screen′ attribute′ ≡ store8088 shared screen attribute address byte → refusal ≡ accepted
+    → refuses (refusal8088 shared screen attribute address) ≡ false
+told-accepted shared screen attribute address byte stored is =
+    ap refuses (told shared screen attribute address byte stored ∙ is)
+
 module _ (m : Machine) (shared screen attribute picture : List ℕ) (address byte : ℕ) where
+  abbrev refusal : ℕ
+  refusal = refusalWithPicture shared screen attribute picture address
+
   abbrev RightLengths : Bool → Type 0
   RightLengths b = lengthsWithPicture (length shared) (length screen) (length attribute) (length picture) ≡ b
 
   pub refused-outcome :
+      refuses refusal ≡ true
+      → storeWithPicture m shared screen attribute picture address byte ≡ refuseWithPicture refusal shared screen attribute picture
+  refused-outcome h = rw h
+
+  pub mended-outcome :
+      refuses refusal ≡ false
+      → storeWithPicture m shared screen attribute picture address byte ≡ mendWithPicture m shared screen attribute picture address byte
+  mended-outcome h = rw h
+
+  -- a store that is accepted has a picture of the right length, and is an access that is accepted
+  pub accepts : refuses refusal ≡ false → (length picture ≡ pictureBytes) × (refuses (refusal8088 shared screen attribute address) ≡ false)
+  accepts h = go (eqb (length picture) pictureBytes) refl h
+    where
+      go :
+          (right : Bool) → eqb (length picture) pictureBytes ≡ right
+          → refuses (cond (not right) lengthRefused (refusal8088 shared screen attribute address)) ≡ false
+          → (length picture ≡ pictureBytes) × (refuses (refusal8088 shared screen attribute address) ≡ false)
+      go true e k = (eqb-true (length picture) pictureBytes e, k)
+      go false e k = absurd (true≢false k)
+
+  -- with a wrong length the outcome is refused by 1
+  pub wrong-outcome :
       RightLengths false
-      → storedWithPicture (record { refusal = lengthRefused; marks = 0 }) shared screen attribute picture
+      → refuseWithPicture lengthRefused shared screen attribute picture
       ≡ storeWithPicture m shared screen attribute picture address byte
   unfolding lengthsWithPicture
-  refused-outcome wrong =
+  wrong-outcome wrong =
       go (lengths8088 (length shared) (length screen) (length attribute)) (eqb (length picture) pictureBytes) refl refl wrong
     where
       go :
           (memories lent : Bool) → lengths8088 (length shared) (length screen) (length attribute) ≡ memories
           → eqb (length picture) pictureBytes ≡ lent → (memories && lent) ≡ false
-          → storedWithPicture (record { refusal = lengthRefused; marks = 0 }) shared screen attribute picture
+          → refuseWithPicture lengthRefused shared screen attribute picture
           ≡ storeWithPicture m shared screen attribute picture address byte
       go true true h k e = absurd (true≢false e)
-      go true false h k e = rw k
+      go memories false h k e = rw k
       go false true h k e = rw (h, k)
-      go false false h k e = rw (h, k)
 
-  -- with the right lengths the outcome is what the three steps leave, at an address that names none too
-  seen-outcome :
-      (seen : Seen) → seen8088 address ≡ seen → RightLengths true
-      → let left = store8088 shared screen attribute address byte in
-      let f = firstReader (chainOf m screen attribute) (seen8088 address) in
-      let new = mended (chainOf m (left .screen) (left .attribute)) f picture in
-      storedWithPicture (record { refusal = left .refusal; marks = marksOf picture new }) (left .shared) (left .screen) (left .attribute) new
-      ≡ storeWithPicture m shared screen attribute picture address byte
-  seen-outcome (Shared place) s right =
+  -- a store that answers a refusal leaves all as it was
+  pub stays-outcome :
+      {r : ℕ} {shared′ screen′ attribute′ : List ℕ} → RightLengths true
+      → stored8088 r shared′ screen′ attribute′ ≡ store8088 shared screen attribute address byte → (r ≡ accepted → ⊥)
+      → refuseWithPicture r shared′ screen′ attribute′ picture ≡ storeWithPicture m shared screen attribute picture address byte
+  stays-outcome {r} {shared′} {screen′} {attribute′} right stored is-not =
       let lent = lent-with-picture (length shared) (length screen) (length attribute) (length picture) right in
-      rw (lent .0, lent .1, s)
-  seen-outcome (Screen place) s right =
-      let lent = lent-with-picture (length shared) (length screen) (length attribute) (length picture) right in
-      rw (lent .0, lent .1, s)
-  seen-outcome (Attribute place) s right =
-      let lent = lent-with-picture (length shared) (length screen) (length attribute) (length picture) right in
-      rw (lent .0, lent .1, s)
-  seen-outcome Nowhere s right =
-      let lent = lent-with-picture (length shared) (length screen) (length attribute) (length picture) right in
-      let c = chainOf m screen attribute in
-      let none : firstReader c Nowhere ≡ rows = none-off-screen c Nowhere refl 0 rows in
-      let stays = none-mended c picture (eqb-true (length picture) pictureBytes (lent .1)) in
-      rw (lent .0, lent .1, s, none, stays, unchanged picture)
+      let is = told shared screen attribute address byte stored in
+      let refuses-it : refuses (refusal8088 shared screen attribute address) ≡ true = rw (is, ne-eqb r accepted is-not) in
+      let kept : stored8088 r shared′ screen′ attribute′ ≡ stored8088 r shared screen attribute =
+      stored ∙ rw (refuses-it, is) in
+      rw (
+        lent .1,
+        refuses-it,
+        is,
+        ap (λ (s : Stored8088). s .shared) kept,
+        ap (λ (s : Stored8088). s .screen) kept,
+        ap (λ (s : Stored8088). s .attribute) kept,
+      )
 
-  pub right-outcome :
-      RightLengths true
-      → let left = store8088 shared screen attribute address byte in
-      let f = firstReader (chainOf m screen attribute) (seen8088 address) in
-      let new = mended (chainOf m (left .screen) (left .attribute)) f picture in
-      storeWithPicture m shared screen attribute picture address byte
-      ≡ storedWithPicture (record { refusal = left .refusal; marks = marksOf picture new }) (left .shared) (left .screen) (left .attribute) new
-  right-outcome right = sym (seen-outcome (seen8088 address) refl right)
-
+  -- one that is accepted leaves what the steps of the code left
   pub outcome :
-      {n refusal f marks : ℕ} {seen : Seen} {shared′ screen′ attribute′ picture′ : List ℕ} → RightLengths true
+      {n r f marks : ℕ} {seen : Seen} {shared′ screen′ attribute′ picture′ : List ℕ} → RightLengths true
       → n ≡ columns m → seen ≡ seen8088 address → f ≡ firstReader (chain n screen attribute) seen
-      → stored8088 refusal shared′ screen′ attribute′ ≡ store8088 shared screen attribute address byte
+      → stored8088 r shared′ screen′ attribute′ ≡ store8088 shared screen attribute address byte → r ≡ accepted
       → (marks ≡ marksOf picture (mended (chain n screen′ attribute′) f picture))
       × (picture′ ≡ mended (chain n screen′ attribute′) f picture)
-      → storedWithPicture (record { refusal = refusal; marks = marks }) shared′ screen′ attribute′ picture′
+      → storedWithPicture (record { refusal = accepted; marks = marks }) shared′ screen′ attribute′ picture′
       ≡ storeWithPicture m shared screen attribute picture address byte
-  outcome right wide sees is-f stored new =
+  outcome right wide sees is-f stored is new =
+      let lent = lent-with-picture (length shared) (length screen) (length attribute) (length picture) right in
+      let goes-on : refuses refusal ≡ false = rw (lent .1) (told-accepted shared screen attribute address byte stored is) in
       rw (
         new .0,
         new .1,
         is-f,
         wide,
         sees,
-        ap (λ (s : Stored8088). s .refusal) stored,
         ap (λ (s : Stored8088). s .shared) stored,
         ap (λ (s : Stored8088). s .screen) stored,
         ap (λ (s : Stored8088). s .attribute) stored,
       )
-      (sym (right-outcome right))
+      (sym (mended-outcome goes-on))

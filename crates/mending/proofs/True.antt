@@ -7,12 +7,12 @@ use native.Mathlib.Omega.{arith}
 use lib.ListN.{length, getD, set, length-set}
 use lib.Seq.{set-getD}
 use lib.Dec.{ltb}
-use borrow.Author.Tests.{ltb-true, eqb-true}
+use borrow.Author.Tests.{ltb-true}
 use Rattle.lent.specs.Answer.{byteRead}
-use Rattle.lent.specs.Lengths.{pictureBytes}
+use Rattle.lent.specs.Refusals.{accepted, refuses}
 use Rattle.lent.specs.declared.ByteRead.{ByteRead}
 use Rattle.machine.specs.declared.Machine.{Machine}
-use Rattle.memories.specs.View8088.{seen8088, byteSeen, storeSeen, store8088}
+use Rattle.memories.specs.View8088.{seen8088, refusal8088, byteSeen, storeSeen}
 use Rattle.memories.specs.declared.view8088.Seen.{Seen}
 use Rattle.memories.specs.declared.view8088.Seen.the-variants.{Shared, Screen, Attribute, Nowhere}
 use Rattle.chain.specs.Chain.{Chain, chain, Row, Whole, Torn, Dark, places, byteAt, capacity, terminator, link, rowFrom, next, rows, rowAt}
@@ -27,10 +27,10 @@ use Rattle.readers.specs.Readers.{firstReader}
 use Rattle.readers.specs.Stored.{chainStored}
 use Rattle.readers.proofs.Readers.{is-first}
 use Rattle.readers.proofs.Stored.{unread-leaves}
-use Rattle.mending.specs.Mending.{mendedRecord, mended}
-use Rattle.mending.specs.Store.{lengthsWithPicture, storeWithPicture}
+use Rattle.mending.specs.Mending.{mendedRecord, mended, marksOf}
+use Rattle.mending.specs.Store.{lengthsWithPicture, StoredWithPicture, storedWithPicture, refusalWithPicture, storeWithPicture}
 use Rattle.mending.specs.True.{TruePicture, KeepsTrue, MarksFresh, SameByteMarksNothing, UpperBitsMarkNothing}
-use Rattle.mending.proofs.Outcome.{lent-with-picture, unchanged, right-outcome}
+use Rattle.mending.proofs.Outcome.{unchanged, accepts, refused-outcome, mended-outcome}
 
 module _ (c : Chain) (seen : Seen) (byte : ℕ) (shared : List ℕ) (wide : c .columns ≤ recordPairs) where
   abbrev after : Chain
@@ -58,16 +58,12 @@ module _ (c : Chain) (seen : Seen) (byte : ℕ) (shared : List ℕ) (wide : c .c
 
 -- where the byte that is stored stands there already, the chain stays
 same-byte :
-    (c : Chain) (seen : Seen) (byte : ℕ) (shared : List ℕ) → byteSeen seen shared (c .screen) (c .attribute) ≡ byteRead byte
+    (c : Chain) (seen : Seen) (byte : ℕ) (shared : List ℕ) → byteSeen seen shared (c .screen) (c .attribute) ≡ byte
     → chainStored c seen byte shared ≡ c
-same-byte c (Shared place) byte shared e = refl
-same-byte c (Screen place) byte shared e =
-    let stands : getD (c .screen) place 0 ≡ byte = ap (λ (r : ByteRead). r .byte) e in
-    rw (← stands, set-getD (c .screen) place 0)
-same-byte c (Attribute place) byte shared e =
-    let stands : getD (c .attribute) place 0 ≡ byte = ap (λ (r : ByteRead). r .byte) e in
-    rw (← stands, set-getD (c .attribute) place 0)
-same-byte c Nowhere byte shared e = refl
+same-byte c (Shared place) byte shared stands = refl
+same-byte c (Screen place) byte shared stands = rw (← stands, set-getD (c .screen) place 0)
+same-byte c (Attribute place) byte shared stands = rw (← stands, set-getD (c .attribute) place 0)
+same-byte c Nowhere byte shared stands = refl
 
 -- attributes that are the same modulo 16 give the same picture
 module _ (c : Chain) (attribute : List ℕ) (alike : (p : ℕ) → byteAt attribute p % 16 ≡ byteAt (c .attribute) p % 16) where
@@ -125,13 +121,29 @@ module _
   abbrev before : Chain
   before = chainOf m screen attribute
 
-  fresh-after :
-      let left = store8088 shared screen attribute address byte in
-      mended (chainOf m (left .screen) (left .attribute)) (firstReader before (seen8088 address)) picture
-      ≡ pictureOf (chainOf m (left .screen) (left .attribute))
-  fresh-after =
-      let lent = lent-with-picture (length shared) (length screen) (length attribute) (length picture) (true-before .lengths) in
-      rw (lent .0, true-before .fresh) (mended-true before (seen8088 address) byte shared (columns-fit m))
+  abbrev after-store : Chain
+  after-store = chainStored before (seen8088 address) byte shared
+
+  abbrev refused : Bool
+  refused = refuses (refusalWithPicture shared screen attribute picture address)
+
+  -- what an accepted store leaves of a true picture: the memories with the byte stored, and their fresh picture
+  abbrev Left : StoredWithPicture → Type 0
+  Left left =
+      let stored = storeSeen (seen8088 address) shared screen attribute byte in
+      left
+      ≡ storedWithPicture (record { refusal = accepted; marks = marksOf (pictureOf before) (pictureOf after-store) })
+      (stored .shared) (stored .screen) (stored .attribute) (pictureOf after-store)
+
+  fresh-after : refused ≡ false → Left (storeWithPicture m shared screen attribute picture address byte)
+  fresh-after h =
+      let goes-on = accepts m shared screen attribute picture address byte h .1 in
+      rw (
+        mended-outcome m shared screen attribute picture address byte h,
+        goes-on,
+        true-before .fresh,
+        mended-true before (seen8088 address) byte shared (columns-fit m),
+      )
 
   -- the lengths stay
   lengths-after :
@@ -144,46 +156,56 @@ module _
   lengths-after (Attribute place) n = rw (length-set attribute place byte)
   lengths-after Nowhere n = refl
 
+  abbrev TrueAfter : StoredWithPicture → Type 0
+  TrueAfter left = TruePicture m (left .shared) (left .screen) (left .attribute) (left .picture)
+
+  stays-true : (b : Bool) → refused ≡ b → TrueAfter (storeWithPicture m shared screen attribute picture address byte)
+  stays-true true h = rw (refused-outcome m shared screen attribute picture address byte h) true-before
+  stays-true false h =
+      let long = picture-sized after-store (columns-fit m) in
+      let as-long = accepts m shared screen attribute picture address byte h .0 in
+      rw (fresh-after h)
+      (record {
+        lengths = rw (long, ← as-long, lengths-after (seen8088 address) (length picture)) (true-before .lengths);
+        fresh = refl;
+      })
+
+  abbrev MarksAfter : StoredWithPicture → Type 0
+  MarksAfter left =
+      left .answer .marks ≡ marksOf (pictureOf before) (pictureOf (chainOf m (left .screen) (left .attribute)))
+
+  marks : (b : Bool) → refused ≡ b → MarksAfter (storeWithPicture m shared screen attribute picture address byte)
+  marks true h = rw (refused-outcome m shared screen attribute picture address byte h, unchanged (pictureOf before))
+  marks false h = rw (fresh-after h)
+
   -- where the fresh picture stays, nothing is marked
   none-marked-where :
-      let left = store8088 shared screen attribute address byte in
-      pictureOf (chainOf m (left .screen) (left .attribute)) ≡ pictureOf before
+      (b : Bool) → refused ≡ b
+      → (refuses (refusal8088 shared screen attribute address) ≡ false → pictureOf after-store ≡ pictureOf before)
       → storeWithPicture m shared screen attribute picture address byte .answer .marks ≡ 0
-  none-marked-where same =
-      rw (right-outcome m shared screen attribute picture address byte (true-before .lengths), fresh-after, same, true-before .fresh)
-      (unchanged (pictureOf before))
+  none-marked-where true h same = rw (refused-outcome m shared screen attribute picture address byte h)
+  none-marked-where false h same =
+      rw (fresh-after h, same (accepts m shared screen attribute picture address byte h .1)) (unchanged (pictureOf before))
 
 pub keeps-true : KeepsTrue
 keeps-true m shared screen attribute picture address byte t =
-    let left = store8088 shared screen attribute address byte in
-    let lent = lent-with-picture (length shared) (length screen) (length attribute) (length picture) (t .lengths) in
-    let fresh = fresh-after m shared screen attribute picture address byte t in
-    let long = picture-sized (chainOf m (left .screen) (left .attribute)) (columns-fit m) in
-    let as-long = eqb-true (length picture) pictureBytes (lent .1) in
-    rw (right-outcome m shared screen attribute picture address byte (t .lengths))
-    (record {
-      lengths =
-          rw (fresh, long, ← as-long, lent .0, lengths-after m shared screen attribute picture address byte t (seen8088 address) (length picture))
-          (t .lengths);
-      fresh = fresh;
-    })
+    stays-true m shared screen attribute picture address byte t (refused m shared screen attribute picture address byte t) refl
 
 pub marks-fresh : MarksFresh
 marks-fresh m shared screen attribute picture address byte t =
-    rw (right-outcome m shared screen attribute picture address byte (t .lengths), fresh-after m shared screen attribute picture address byte t, t .fresh)
+    marks m shared screen attribute picture address byte t (refused m shared screen attribute picture address byte t) refl
 
 pub same-byte-marks-nothing : SameByteMarksNothing
 same-byte-marks-nothing m shared screen attribute picture address byte t same =
-    let c = chainOf m screen attribute in
-    let lent = lent-with-picture (length shared) (length screen) (length attribute) (length picture) (t .lengths) in
-    let stands : byteSeen (seen8088 address) shared screen attribute ≡ byteRead byte = rw (lent .0) at same in
-    none-marked-where m shared screen attribute picture address byte t
-    (rw (lent .0) (ap pictureOf (same-byte c (seen8088 address) byte shared stands)))
+    none-marked-where m shared screen attribute picture address byte t (refused m shared screen attribute picture address byte t) refl
+    (λ goes-on.
+    let stands : byteRead (byteSeen (seen8088 address) shared screen attribute) ≡ byteRead byte = rw goes-on at same in
+    ap pictureOf
+    (same-byte (chainOf m screen attribute) (seen8088 address) byte shared (ap (λ (r : ByteRead). r .byte) stands)))
 
 pub upper-bits-mark-nothing : UpperBitsMarkNothing
 unfolding byteAt
 upper-bits-mark-nothing m shared screen attribute picture address byte place t seen low =
-    let c = chainOf m screen attribute in
-    let lent = lent-with-picture (length shared) (length screen) (length attribute) (length picture) (t .lengths) in
-    none-marked-where m shared screen attribute picture address byte t
-    (rw (lent .0, seen) (same-picture c (set attribute place byte) (λ p. same-low attribute place byte low (p % places))))
+    none-marked-where m shared screen attribute picture address byte t (refused m shared screen attribute picture address byte t) refl
+    (λ _. rw seen
+    (same-picture (chainOf m screen attribute) (set attribute place byte) (λ p. same-low attribute place byte low (p % places))))

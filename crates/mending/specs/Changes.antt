@@ -1,5 +1,5 @@
--- The owner's third demand: "Each 8088 store leaves alone the rows ahead of the first row that read the stored byte, and
--- reports exactly the rows whose record changed." Of every picture, true or not, and of refused stores too.
+-- The owner's third demand: "Each 8088 store leaves alone the rows ahead of the first row that read the stored byte,
+-- and reports exactly the rows whose record changed." Of every picture, true or not, and of refused stores too.
 use Prim.Native.Nat.{ℕ, _≤_, _<_}
 use mathlib.Core.Path.{_≡_}
 use mathlib.Core.List.{List}
@@ -26,4 +26,5 @@ MarksTheChanged =
     → let left = storeWithPicture m shared screen attribute picture address byte in
     let marked = bitSet (left .answer .marks) row in
     (row < rows → marked ≡ true → recordIn (left .picture) row ≡ recordIn picture row → ⊥)
-    × ((row < rows → marked ≡ false → recordIn (left .picture) row ≡ recordIn picture row) × (rows ≤ row → marked ≡ false))
+    × ((row < rows → marked ≡ false → recordIn (left .picture) row ≡ recordIn picture row)
+    × (rows ≤ row → marked ≡ false))

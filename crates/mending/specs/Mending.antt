@@ -7,7 +7,8 @@ use Rattle.chain.specs.Chain.{Chain, rows}
 use Rattle.picture.specs.Picture.{inOrder, recordAt, recordIn}
 use Rattle.marks.specs.Marks.{marksTo}
 
--- "Records before f stay; records from f on become those of the walk after the store. If no row reads it, no record changes."
+-- "Records before f stay; records from f on become those of the walk after the store. If no row reads it, no record
+-- changes."
 abbrev pub mendedRecord : Chain → (f : ℕ) → (picture : List ℕ) → (row : ℕ) → List ℕ
 mendedRecord after f picture row = cond (ltb row f) (recordIn picture row) (recordAt after row)
 

@@ -1,13 +1,13 @@
 -- Document 01, "The picture": "A store of a byte by the 8088 with a picture lent".
 use Prim.Native.Nat.{ℕ}
 use mathlib.Core.List.{List}
-use mathlib.Core.Bool.{Bool, cond, _&&_}
+use mathlib.Core.Bool.{Bool, not, cond, _&&_}
 use lib.ListN.{length}
 use lib.Dec.{eqb}
 use Rattle.lent.specs.Lengths.{pictureBytes}
-use Rattle.lent.specs.Refusals.{accepted, lengthRefused}
+use Rattle.lent.specs.Refusals.{accepted, refuses, lengthRefused}
 use Rattle.machine.specs.declared.Machine.{Machine}
-use Rattle.memories.specs.View8088.{lengths8088, seen8088, store8088}
+use Rattle.memories.specs.View8088.{lengths8088, seen8088, refusal8088, store8088}
 use Rattle.picture.specs.Draw.{chainOf}
 use Rattle.readers.specs.Readers.{firstReader}
 use Rattle.mending.specs.Mending.{mended, marksOf}
@@ -29,13 +29,19 @@ abbrev pub storedWithPicture : Stored → (shared screen attribute picture : Lis
 storedWithPicture answer shared screen attribute picture =
     record { answer = answer; shared = shared; screen = screen; attribute = attribute; picture = picture }
 
--- refused as the store with no picture is, and by 1 too if the picture's length is wrong
-abbrev pub refusalWithPicture : (shared screen attribute picture : List ℕ) → (address byte : ℕ) → ℕ
-refusalWithPicture shared screen attribute picture address byte =
-    cond (eqb (length picture) pictureBytes) (store8088 shared screen attribute address byte .refusal) lengthRefused
+-- by what the store is refused: by 1 if the picture's length is wrong, else as any access of the 8088 is
+abbrev pub refusalWithPicture : (shared screen attribute picture : List ℕ) → (address : ℕ) → ℕ
+refusalWithPicture shared screen attribute picture address =
+    cond (not (eqb (length picture) pictureBytes)) lengthRefused
+    (refusal8088 shared screen attribute address)
+
+-- a refusal has no marks, and "all buffers .. stay"
+abbrev pub refuseWithPicture : (refusal : ℕ) → (shared screen attribute picture : List ℕ) → StoredWithPicture
+refuseWithPicture refusal = storedWithPicture (record { refusal = refusal; marks = 0 })
 
 -- "Let f be the first row that reads the stored byte, by the walk of memory before the store. The byte is stored."
-abbrev pub mendWithPicture : Machine → (shared screen attribute picture : List ℕ) → (address byte : ℕ) → StoredWithPicture
+abbrev pub mendWithPicture :
+    Machine → (shared screen attribute picture : List ℕ) → (address byte : ℕ) → StoredWithPicture
 mendWithPicture m shared screen attribute picture address byte =
     let f = firstReader (chainOf m screen attribute) (seen8088 address) in
     let left = store8088 shared screen attribute address byte in
@@ -44,13 +50,9 @@ mendWithPicture m shared screen attribute picture address byte =
     (record { refusal = accepted; marks = marksOf picture new })
     (left .shared) (left .screen) (left .attribute) new
 
--- a refusal has no marks, and "all buffers .. stay"
-abbrev pub refuseWithPicture : (refusal : ℕ) → (shared screen attribute picture : List ℕ) → StoredWithPicture
-refuseWithPicture refusal = storedWithPicture (record { refusal = refusal; marks = 0 })
-
-abbrev pub storeWithPicture : Machine → (shared screen attribute picture : List ℕ) → (address byte : ℕ) → StoredWithPicture
+abbrev pub storeWithPicture :
+    Machine → (shared screen attribute picture : List ℕ) → (address byte : ℕ) → StoredWithPicture
 storeWithPicture m shared screen attribute picture address byte =
-    let refusal = refusalWithPicture shared screen attribute picture address byte in
-    cond (eqb refusal accepted)
+    let refusal = refusalWithPicture shared screen attribute picture address in
+    cond (refuses refusal) (refuseWithPicture refusal shared screen attribute picture)
     (mendWithPicture m shared screen attribute picture address byte)
-    (refuseWithPicture refusal shared screen attribute picture)

@@ -80,7 +80,8 @@ fn mend(columns: usize, screen: &[u8], attribute: &[u8], first: Reader, picture:
     requires { ⌜ (columns ≤ recordPairs) × (first .row ≤ rows) ⌝ }
     requires { ⌜ Comes (chain columns (now screen) (now attribute)) first ⌝ }
     ensures { λ r. ⌜ r
-        ≡ marksOf (now (picture .entry)) (mended (chain columns (now (screen .entry)) (now (attribute .entry))) (first .row) (now (picture .entry))) ⌝ }
+        ≡ marksOf (now (picture .entry))
+        (mended (chain columns (now (screen .entry)) (now (attribute .entry))) (first .row) (now (picture .entry))) ⌝ }
     ensures { λ _. ⌜ now (picture .exit)
         ≡ mended (chain columns (now (screen .entry)) (now (attribute .entry))) (first .row) (now (picture .entry)) ⌝ }
 {
@@ -112,6 +113,7 @@ fn lengths_with_picture(shared: usize, screen: usize, attribute: usize, picture:
     memories::lengths_8088(shared, screen, attribute) && picture == lent::PICTURE_BYTES
 }
 
+// Stores a byte as the 8088 does, mends the picture from the first row that read it, and marks the rows that changed.
 pub fn store_with_picture(
     machine: Machine,
     shared: &mut [u8],
@@ -121,8 +123,10 @@ pub fn store_with_picture(
     address: u32,
     byte: u8,
 ) -> Stored
-    ensures { λ r. ⌜ storedWithPicture r (now (shared .exit)) (now (screen .exit)) (now (attribute .exit)) (now (picture .exit))
-        ≡ storeWithPicture machine (now (shared .entry)) (now (screen .entry)) (now (attribute .entry)) (now (picture .entry)) address byte ⌝ }
+    ensures { λ r. ⌜ storedWithPicture r
+        (now (shared .exit)) (now (screen .exit)) (now (attribute .exit)) (now (picture .exit))
+        ≡ storeWithPicture machine
+        (now (shared .entry)) (now (screen .entry)) (now (attribute .entry)) (now (picture .entry)) address byte ⌝ }
 {
     if !lengths_with_picture(shared.len(), screen.len(), attribute.len(), picture.len()) {
         return Stored {
@@ -132,10 +136,15 @@ pub fn store_with_picture(
     }
     let columns = machine.columns();
     let seen = memories::seen_8088(address);
-    // The walk of memory before the store. Where no row reads the byte, and where the address names
-    // none, nothing is mended.
+    // The walk of memory before the store.
     let first = readers::first_reader(columns, screen, attribute, seen);
     let refusal = memories::store_8088(shared, screen, attribute, address, byte);
+    if refusal != lent::ACCEPTED {
+        return Stored { refusal, marks: 0 };
+    }
     let marks = mend(columns, screen, attribute, first, picture);
-    Stored { refusal, marks }
+    Stored {
+        refusal: lent::ACCEPTED,
+        marks,
+    }
 }

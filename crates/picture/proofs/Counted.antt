@@ -3,26 +3,23 @@ use Prim.Native.Nat.{_≤_}
 use mathlib.Core.Path.{refl}
 use mathlib.Core.Bool.{Bool, true, false, cond}
 use native.Mathlib.Omega.{arith}
-use lib.ListN.{length}
+use Rattle.lent.specs.Refusals.{refuses}
+use Rattle.lent.proofs.Tests.{either}
 use Rattle.chain.specs.Chain.{chain}
 use Rattle.chain.specs.Reading.{walkReads, readsAt132, readsAt80}
 use Rattle.chain.proofs.Reading.{reads-at-most}
-use Rattle.picture.specs.Picture.{pictureOf}
-use Rattle.picture.specs.Draw.{lengthsPicture, DrawnPicture, drawn}
+use Rattle.picture.specs.Draw.{DrawnPicture, refusalDrawing}
 use Rattle.picture.specs.Counted.{CountAtMost}
 
 pub count-at-most : CountAtMost
 count-at-most m screen attribute picture =
-    go (lengthsPicture (length screen) (length attribute) (length picture)) (m .columns132)
+    either (λ (left : DrawnPicture). left .answer .reads ≤ cond (m .columns132) readsAt132 readsAt80)
+    (refuses (refusalDrawing screen attribute picture)) _ _ (λ _. none (m .columns132)) (λ _. walked (m .columns132))
   where
-    left : Bool → Bool → DrawnPicture
-    left right wide =
-        let c = chain (cond wide 132 80) screen attribute in
-        cond right (drawn (record { refusal = 0; reads = walkReads c }) (pictureOf c))
-        (drawn (record { refusal = 1; reads = 0 }) picture)
+    none : (wide : Bool) → 0 ≤ cond wide readsAt132 readsAt80
+    none true = omega arith
+    none false = omega arith
 
-    go : (right wide : Bool) → left right wide .answer .reads ≤ cond wide readsAt132 readsAt80
-    go true true = reads-at-most (chain 132 screen attribute) .0 refl
-    go true false = reads-at-most (chain 80 screen attribute) .1 refl
-    go false true = omega arith
-    go false false = omega arith
+    walked : (wide : Bool) → walkReads (chain (cond wide 132 80) screen attribute) ≤ cond wide readsAt132 readsAt80
+    walked true = reads-at-most (chain 132 screen attribute) .0 refl
+    walked false = reads-at-most (chain 80 screen attribute) .1 refl

@@ -1,5 +1,5 @@
--- The records of a walk are what its rows read: two chains that hold the same bytes wherever the first rows of the one read
--- give those rows the same records.
+-- The records of a walk are what its rows read: two chains that hold the same bytes wherever the first rows of the one
+-- read give those rows the same records.
 use Prim.Native.Nat.{ℕ, _<_}
 use mathlib.Core.Path.{_≡_}
 use Rattle.chain.specs.Chain.{Chain, rowAt}

@@ -1,11 +1,11 @@
 -- Document 01, "The picture" and "The chain of lines": the drawing call.
 use Prim.Native.Nat.{ℕ}
 use mathlib.Core.List.{List}
-use mathlib.Core.Bool.{Bool, cond, _&&_}
+use mathlib.Core.Bool.{Bool, not, cond, _&&_}
 use lib.ListN.{length}
 use lib.Dec.{eqb}
 use Rattle.lent.specs.Lengths.{screenBytes, attributeBytes, pictureBytes}
-use Rattle.lent.specs.Refusals.{accepted, lengthRefused}
+use Rattle.lent.specs.Refusals.{accepted, refuses, lengthRefused}
 use Rattle.machine.specs.Settings.{columns}
 use Rattle.machine.specs.declared.Machine.{Machine}
 use Rattle.chain.specs.Chain.{Chain, chain}
@@ -26,6 +26,16 @@ pub record DrawnPicture : Type 0 where
 abbrev pub drawn : Drawn → List ℕ → DrawnPicture
 drawn answer picture = record { answer = answer; picture = picture }
 
+-- by what a drawing is refused
+abbrev pub refusalDrawing : (screen attribute picture : List ℕ) → ℕ
+refusalDrawing screen attribute picture =
+    cond (not (lengthsPicture (length screen) (length attribute) (length picture))) lengthRefused
+    accepted
+
+-- "A refusal returns its number, with .. read count .. 0 ..; all buffers .. stay."
+abbrev pub refuseDrawing : (refusal : ℕ) → (picture : List ℕ) → DrawnPicture
+refuseDrawing refusal = drawn (record { refusal = refusal; reads = 0 })
+
 -- the chain that the machine's column setting and the two memories make
 abbrev pub chainOf : Machine → List ℕ → List ℕ → Chain
 chainOf m screen attribute = chain (columns m) screen attribute
@@ -33,8 +43,8 @@ chainOf m screen attribute = chain (columns m) screen attribute
 -- "The drawing call reports the bytes of screen memory that the walk reads"
 abbrev pub draw : Machine → (screen attribute picture : List ℕ) → DrawnPicture
 draw m screen attribute picture =
-    cond (lengthsPicture (length screen) (length attribute) (length picture))
+    let refusal = refusalDrawing screen attribute picture in
+    cond (refuses refusal) (refuseDrawing refusal picture)
     (drawn
     (record { refusal = accepted; reads = walkReads (chainOf m screen attribute) })
     (pictureOf (chainOf m screen attribute)))
-    (drawn (record { refusal = lengthRefused; reads = 0 }) picture)

@@ -55,6 +55,7 @@ fn draw_rows(columns: usize, screen: &[u8], attribute: &[u8], picture: &mut [u8]
     reads
 }
 
+// Draws the picture afresh from screen and attribute memory.
 pub fn draw(machine: Machine, screen: &[u8], attribute: &[u8], picture: &mut [u8]) -> Drawn
     ensures { λ r. ⌜ drawn r (now (picture .exit))
         ≡ draw machine (now (screen .entry)) (now (attribute .entry)) (now (picture .entry)) ⌝ }

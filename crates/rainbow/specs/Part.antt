@@ -1,13 +1,10 @@
 -- The part of the glyph table that is a code's, as place and length: a reference cannot be handed to C. Document 01,
 -- "Dots" and "Numbers of refusal".
-use Prim.Native.Nat.{ℕ, _*_, _<_}
+use Prim.Native.Nat.{ℕ, _<_}
 use mathlib.Core.Path.{_≡_}
 use mathlib.Core.List.{List}
-use mathlib.Core.Bool.{cond}
 use lib.ListN.{length, take, drop}
-use lib.Dec.{eqb}
-use Rattle.lent.specs.Refusals.{accepted}
-use Rattle.glyphs.specs.Glyphs.{codeBytes, glyphPart, partRefusal}
+use Rattle.glyphs.specs.Glyphs.{glyphPart, partStart, partRefusal}
 use Rattle.rainbow.specs.declared.dots.PartPlace.{PartPlace}
 
 -- "code times 16", "the sixteen scan bytes of a code"; refused, "all other numbers 0 .. and a part of no bytes"
@@ -15,7 +12,7 @@ unfoldable pub partPlace : (table : List ℕ) → (code : ℕ) → PartPlace
 partPlace table code =
     record {
       refusal = partRefusal (glyphPart table code);
-      at = cond (eqb (partRefusal (glyphPart table code)) accepted) (code * codeBytes) 0;
+      at = partStart table code;
       length = length (glyphPart table code);
     }
 

@@ -13,6 +13,7 @@ pub struct PartPlace {
     pub length: usize,
 }
 
+// Where the sixteen bytes of a code stand in the glyph table.
 #[no_mangle]
 pub extern "C" fn rainbow_glyph_part(table: &[u8], code: u8) -> PartPlace
     ensures { λ r. ⌜ r ≡ partPlace (now (table .entry)) code ⌝ }
@@ -34,6 +35,7 @@ pub extern "C" fn rainbow_glyph_part(table: &[u8], code: u8) -> PartPlace
     }
 }
 
+// Draws the dots of one scan line of a row.
 #[no_mangle]
 pub extern "C" fn rainbow_scan_line(
     machine: Machine,
@@ -49,6 +51,7 @@ pub extern "C" fn rainbow_scan_line(
     scan_line::draw(machine, picture, table, row, scan, line)
 }
 
+// How many dots a scan line has: 800 or 1,188.
 #[no_mangle]
 pub extern "C" fn rainbow_dots_of_line(machine: Machine) -> usize
     ensures { λ r. ⌜ r ≡ dotsOfLine machine ⌝ }

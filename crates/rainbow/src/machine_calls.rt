@@ -1,7 +1,7 @@
 // The machine: power-up, the vertical tick, its settings and the write ports.
 ghost use mathlib.Core.Path.{_≡_};
 ghost use Rattle.machine.specs.Power.{powerUp, verticalTick};
-ghost use Rattle.machine.specs.Settings.{columns, blanked, graphics};
+ghost use Rattle.machine.specs.Settings.{columns, scrollLatch, blanked, graphics};
 ghost use Rattle.diagnostic.specs.Diagnostic.{writtenPort};
 ghost use Rattle.ports.specs.Ports.{writePort};
 ghost use Rattle.rainbow.specs.Version.{version};
@@ -9,8 +9,9 @@ use machine::Machine;
 use machine::Written;
 
 // RAINBOW_VERSION of the header.
-const VERSION: u32 = 1;
+const VERSION: u32 = 2;
 
+// The version of the header that this archive was made for.
 #[no_mangle]
 pub extern "C" fn rainbow_version() -> u32
     ensures { λ r. ⌜ r ≡ version ⌝ }
@@ -18,6 +19,7 @@ pub extern "C" fn rainbow_version() -> u32
     VERSION
 }
 
+// The machine at power-up.
 #[no_mangle]
 pub extern "C" fn rainbow_power_up() -> Machine
     ensures { λ r. ⌜ r ≡ powerUp ⌝ }
@@ -25,6 +27,7 @@ pub extern "C" fn rainbow_power_up() -> Machine
     Machine::power_up()
 }
 
+// The machine after a vertical tick.
 #[no_mangle]
 pub extern "C" fn rainbow_vertical_tick(machine: Machine) -> Machine
     ensures { λ r. ⌜ r ≡ verticalTick machine ⌝ }
@@ -32,6 +35,7 @@ pub extern "C" fn rainbow_vertical_tick(machine: Machine) -> Machine
     machine.vertical_tick()
 }
 
+// How many columns the screen is set to: 80 or 132.
 #[no_mangle]
 pub extern "C" fn rainbow_columns(machine: Machine) -> usize
     ensures { λ r. ⌜ r ≡ columns machine ⌝ }
@@ -39,6 +43,15 @@ pub extern "C" fn rainbow_columns(machine: Machine) -> usize
     machine.columns()
 }
 
+// The scroll latch as it is read: modulo 16.
+#[no_mangle]
+pub extern "C" fn rainbow_scroll_latch(machine: Machine) -> u8
+    ensures { λ r. ⌜ r ≡ scrollLatch machine ⌝ }
+{
+    machine.scroll_latch()
+}
+
+// Whether the display is blanked.
 #[no_mangle]
 pub extern "C" fn rainbow_blanked(machine: Machine) -> bool
     ensures { λ r. ⌜ r ≡ blanked machine ⌝ }
@@ -46,6 +59,7 @@ pub extern "C" fn rainbow_blanked(machine: Machine) -> bool
     machine.blanked()
 }
 
+// Whether the graphics board is selected.
 #[no_mangle]
 pub extern "C" fn rainbow_graphics(machine: Machine) -> bool
     ensures { λ r. ⌜ r ≡ graphics machine ⌝ }
@@ -53,6 +67,7 @@ pub extern "C" fn rainbow_graphics(machine: Machine) -> bool
     machine.graphics()
 }
 
+// Writes a code to a port.
 #[no_mangle]
 pub extern "C" fn rainbow_write_port(
     machine: Machine,

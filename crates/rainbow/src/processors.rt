@@ -5,6 +5,7 @@ ghost use Rattle.memories.specs.ViewZ80.{readZ80, storeZ80, storedZ80};
 ghost use Rattle.shadow.specs.Shadow.{readShadow, writeShadow, writtenShadow};
 use lent::ByteRead;
 
+// Reads a byte as the 8088 does.
 #[no_mangle]
 pub extern "C" fn rainbow_read_8088(
     shared: &[u8],
@@ -17,6 +18,7 @@ pub extern "C" fn rainbow_read_8088(
     memories::read_8088(shared, screen, attribute, address)
 }
 
+// Stores a byte as the 8088 does, with no picture lent.
 #[no_mangle]
 pub extern "C" fn rainbow_store_8088(
     shared: &mut [u8],
@@ -31,6 +33,7 @@ pub extern "C" fn rainbow_store_8088(
     memories::store_8088(shared, screen, attribute, address, byte)
 }
 
+// Reads a byte as the Z80 does.
 #[no_mangle]
 pub extern "C" fn rainbow_read_z80(private: &[u8], shared: &[u8], address: u16) -> ByteRead
     ensures { λ r. ⌜ r ≡ readZ80 (now (private .entry)) (now (shared .entry)) address ⌝ }
@@ -38,6 +41,7 @@ pub extern "C" fn rainbow_read_z80(private: &[u8], shared: &[u8], address: u16) 
     memories::read_z80(private, shared, address)
 }
 
+// Stores a byte as the Z80 does.
 #[no_mangle]
 pub extern "C" fn rainbow_store_z80(
     private: &mut [u8],
@@ -51,6 +55,7 @@ pub extern "C" fn rainbow_store_z80(
     memories::store_z80(private, shared, address, byte)
 }
 
+// Reads the low four bits at a place of the shadow.
 #[no_mangle]
 pub extern "C" fn rainbow_read_shadow(shadow: &[u8], place: usize) -> ByteRead
     ensures { λ r. ⌜ r ≡ readShadow (now (shadow .entry)) place ⌝ }
@@ -58,6 +63,7 @@ pub extern "C" fn rainbow_read_shadow(shadow: &[u8], place: usize) -> ByteRead
     shadow::read_shadow(shadow, place)
 }
 
+// Writes four bits at a place of the shadow.
 #[no_mangle]
 pub extern "C" fn rainbow_write_shadow(shadow: &mut [u8], place: usize, value: u8) -> u8
     ensures { λ r. ⌜ writtenShadow r (now (shadow .exit)) ≡ writeShadow (now (shadow .entry)) place value ⌝ }

@@ -7,6 +7,7 @@ use machine::Machine;
 use mending::Stored;
 use picture::Drawn;
 
+// Draws the picture afresh from screen and attribute memory.
 #[no_mangle]
 pub extern "C" fn rainbow_draw(
     machine: Machine,
@@ -20,6 +21,7 @@ pub extern "C" fn rainbow_draw(
     picture::draw(machine, screen, attribute, picture)
 }
 
+// Stores a byte as the 8088 does, mends the picture, and marks the rows that changed.
 #[no_mangle]
 pub extern "C" fn rainbow_store_with_picture(
     machine: Machine,
@@ -30,12 +32,15 @@ pub extern "C" fn rainbow_store_with_picture(
     address: u32,
     byte: u8,
 ) -> Stored
-    ensures { λ r. ⌜ storedWithPicture r (now (shared .exit)) (now (screen .exit)) (now (attribute .exit)) (now (picture .exit))
-        ≡ storeWithPicture machine (now (shared .entry)) (now (screen .entry)) (now (attribute .entry)) (now (picture .entry)) address byte ⌝ }
+    ensures { λ r. ⌜ storedWithPicture r
+        (now (shared .exit)) (now (screen .exit)) (now (attribute .exit)) (now (picture .exit))
+        ≡ storeWithPicture machine
+        (now (shared .entry)) (now (screen .entry)) (now (attribute .entry)) (now (picture .entry)) address byte ⌝ }
 {
     mending::store_with_picture(machine, shared, screen, attribute, picture, address, byte)
 }
 
+// Whether a row is among the marks of a store.
 #[no_mangle]
 pub extern "C" fn rainbow_is_marked(marks: u32, row: usize) -> bool
     ensures { λ r. ⌜ r ≡ bitSet marks row ⌝ }

@@ -14,8 +14,8 @@ unfoldable pub among : ℕ → List ℕ → Bool
 among place [] = false
 among place (one ∷ places) = let later = among place places in cond (eqb place one) true later
 
--- whether the byte that the 8088 sees is at one of these places of screen memory, or of attribute memory; a byte of shared
--- memory is at none
+-- whether the byte that the 8088 sees is at one of these places of screen memory, or of attribute memory; a byte of
+-- shared memory is at none
 abbrev pub readsByte : Seen → (screen attribute : List ℕ) → Bool
 readsByte (Shared place) screen attribute = false
 readsByte (Screen place) screen attribute = among place screen
@@ -26,7 +26,8 @@ readsByte Nowhere screen attribute = false
 abbrev pub rowReads : Chain → Seen → Row → Bool
 rowReads c seen row = readsByte seen (screenRead c row) (attributeRead c row)
 
--- "the first row that reads the stored byte": of `more` rows from `row` on; where none of them does, the number after theirs
+-- "the first row that reads the stored byte": of `more` rows from `row` on; where none of them does, the number after
+-- theirs
 unfoldable pub firstFrom : Chain → Seen → (row more : ℕ) → ℕ
 firstFrom c seen row zero = row
 firstFrom c seen row (suc more) =
@@ -40,4 +41,6 @@ firstReader c seen = firstFrom c seen 0 rows
 abbrev pub IsFirst : Type 0
 IsFirst =
     (c : Chain) (seen : Seen) → let f = firstReader c seen in
-    (f ≤ rows) × ((f < rows → rowReads c seen (rowAt c f) ≡ true) × ((row : ℕ) → row < f → rowReads c seen (rowAt c row) ≡ false))
+    (f ≤ rows)
+    × ((f < rows → rowReads c seen (rowAt c f) ≡ true)
+    × ((row : ℕ) → row < f → rowReads c seen (rowAt c row) ≡ false))

@@ -1,5 +1,5 @@
--- A store and what the rows read: a row that does not read the stored byte reads the same, and the first row that reads it is
--- the same before and after.
+-- A store and what the rows read: a row that does not read the stored byte reads the same, and the first row that reads
+-- it is the same before and after.
 use Prim.Native.Nat.{ℕ}
 use mathlib.Core.Path.{_≡_}
 use mathlib.Core.List.{List}

@@ -112,6 +112,7 @@ fn on_screen(seen: Seen) -> bool
     }
 }
 
+// The first row that reads a byte, by the walk of memory as it is.
 pub fn first_reader(columns: usize, screen: &[u8], attribute: &[u8], seen: Seen) -> Reader
     requires { ⌜ length (now screen) ≡ screenBytes ⌝ }
     requires { ⌜ length (now attribute) ≡ attributeBytes ⌝ }

@@ -1,5 +1,5 @@
--- A row's cells are written while its terminator is searched for, and the pairs after them: what holds after so many, how it
--- begins, goes on and ends.
+-- A row's cells are written while its terminator is searched for, and the pairs after them: what holds after so many,
+-- how it begins, goes on and ends.
 use Prim.Native.Nat.{ℕ, suc, _+_, _-_, _*_, _%_, _≤_, _<_}
 use mathlib.Core.Path.{_≡_, refl, sym, _∙_, ap, subst}
 use mathlib.Core.List.{List, [], _∷_, _++_, append-assoc, append-nil}

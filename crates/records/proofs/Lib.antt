@@ -2,3 +2,4 @@ pub mod Laws
 pub mod Cells
 pub mod Rows
 pub mod Alike
+pub mod Record

@@ -1,16 +1,27 @@
 -- Document 01, "The picture": the record of a row, and the picture.
-use Prim.Native.Nat.{ℕ, zero, suc, _+_, _-_, _/_, _%_}
+use Prim.Native.Nat.{ℕ, zero, suc, _+_, _-_, _/_, _%_, _<_}
+use mathlib.Core.Path.{_≡_}
 use mathlib.Core.List.{List, [], _∷_, _++_}
-use Rattle.chain.specs.Chain.{Chain, Row, Whole, Torn, Dark, byteAt, capacity}
+use Rattle.chain.specs.Chain.{Chain, Row, Whole, Torn, Dark, byteAt, capacity, rowFrom}
 use Rattle.chain.specs.declared.Head.{Head}
 
--- "24 row records of 268 bytes: start (two bytes, high byte first, the house habit), kind 0 to 7, count, then 132 pairs of
--- character and attribute modulo 16."
+-- "24 row records of 268 bytes: start (two bytes, high byte first, the house habit), kind 0 to 7, count, then 132 pairs
+-- of character and attribute modulo 16."
 abbrev pub recordBytes : ℕ
 recordBytes = 268
 
 abbrev pub recordPairs : ℕ
 recordPairs = 132
+
+-- where they stand: the high byte of the start at 0
+abbrev pub startLowAt : ℕ
+startLowAt = 1
+
+abbrev pub kindAt : ℕ
+kindAt = 2
+
+abbrev pub countAt : ℕ
+countAt = 3
 
 -- the bytes ahead of the pairs
 abbrev pub headBytes : ℕ
@@ -40,6 +51,12 @@ abbrev pub cellsShown : Chain → Row → ℕ
 cellsShown c (Whole head cells) = cells
 cellsShown c (Torn head) = capacity (c .columns) (head .kind)
 cellsShown c Dark = 0
+
+-- "FF is never a cell", of a whole row and of a torn one: a statement, proved in proofs/Record.antt
+abbrev pub FFIsNoCell : Type 0
+FFIsNoCell =
+    (c : Chain) (head : Head) (cell : ℕ) → cell < cellsShown c (rowFrom c head)
+    → byteAt (c .screen) (head .start + cell) ≡ 0xFF → ⊥
 
 -- "Pairs after the last cell are 20, 0E."
 unfoldable pub fillPairs : ℕ → List ℕ

@@ -14,14 +14,16 @@ use chain::Head;
 use chain::Terminator;
 
 pub const RECORD_BYTES: usize = 268;
-// The bytes of a record ahead of its pairs.
+// The bytes of a record ahead of its pairs: the start, its high byte at 0, then kind and count.
 pub const HEAD_BYTES: usize = 4;
+
+pub const START_LOW_AT: usize = 1;
 
 pub const KIND_AT: usize = 2;
 
 pub const COUNT_AT: usize = 3;
 
-const RECORD_PAIRS: usize = 132;
+pub const RECORD_PAIRS: usize = 132;
 // The count of a torn row, and of a dark one.
 pub const TORN: u8 = 255;
 
@@ -125,7 +127,7 @@ fn write_head(into: &mut [u8], head: Head, count: u8)
 {
     let start = head.start;
     into[0] = (start / 256) as u8;
-    into[1] = (start % 256) as u8;
+    into[START_LOW_AT] = (start % 256) as u8;
     into[KIND_AT] = head.kind;
     into[COUNT_AT] = count;
 }

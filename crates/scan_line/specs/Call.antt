@@ -1,11 +1,11 @@
 -- Document 01, "Dots" and "Numbers of refusal": the scan line call.
 use Prim.Native.Nat.{ℕ}
 use mathlib.Core.List.{List}
-use mathlib.Core.Bool.{Bool, cond, _&&_}
+use mathlib.Core.Bool.{Bool, not, cond, _&&_}
 use lib.ListN.{length}
 use lib.Dec.{eqb, ltb, leb}
 use Rattle.lent.specs.Lengths.{pictureBytes, glyphBytes, lineBytes}
-use Rattle.lent.specs.Refusals.{accepted, lengthRefused, placeRefused}
+use Rattle.lent.specs.Refusals.{accepted, refuses, lengthRefused, placeRefused}
 use Rattle.machine.specs.declared.Machine.{Machine}
 use Rattle.chain.specs.Chain.{rows}
 use Rattle.picture.specs.Picture.{recordIn}
@@ -28,10 +28,15 @@ pub record DrawnLine : Type 0 where
 abbrev pub drawnLine : ℕ → List ℕ → DrawnLine
 drawnLine refusal line = record { refusal = refusal; line = line }
 
+-- by what the call is refused, in the table's order
+abbrev pub refusalLine : (picture table : List ℕ) → (row scan : ℕ) → (line : List ℕ) → ℕ
+refusalLine picture table row scan line =
+    cond (not (lengthsLine (length picture) (length table) (length line))) lengthRefused
+    (cond (not (onTube row scan)) placeRefused
+    accepted)
+
 abbrev pub drawLine : Machine → (picture table : List ℕ) → (row scan : ℕ) → (line : List ℕ) → DrawnLine
 drawLine m picture table row scan line =
-    cond (lengthsLine (length picture) (length table) (length line))
-    (cond (onTube row scan)
+    let refusal = refusalLine picture table row scan line in
+    cond (refuses refusal) (drawnLine refusal line)
     (drawnLine accepted (lineOf m table (recordIn picture row) scan))
-    (drawnLine placeRefused line))
-    (drawnLine lengthRefused line)

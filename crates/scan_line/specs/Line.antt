@@ -9,7 +9,7 @@ use Rattle.lent.specs.Lengths.{lineBytes}
 use Rattle.machine.specs.Settings.{columns, blanked, graphics}
 use Rattle.machine.specs.declared.Machine.{Machine}
 use Rattle.chain.specs.Chain.{capacity}
-use Rattle.records.specs.Record.{headBytes, darkCount}
+use Rattle.records.specs.Record.{kindAt, countAt, headBytes, darkCount}
 use Rattle.picture.specs.Picture.{inOrder}
 use Rattle.glyphs.specs.Glyphs.{glyphByte}
 use Rattle.glyphs.specs.Scans.{scanAddress, glyphScan}
@@ -17,10 +17,10 @@ use Rattle.dots.specs.Cell.{cellDots}
 
 -- "The record's kind is taken modulo 8 and its attributes modulo 16."
 abbrev pub kindIn : (bytes : List ℕ) → ℕ
-kindIn bytes = getD bytes 2 0 % 8
+kindIn bytes = getD bytes kindAt 0 % 8
 
 abbrev pub countIn : (bytes : List ℕ) → ℕ
-countIn bytes = getD bytes 3 0
+countIn bytes = getD bytes countAt 0
 
 abbrev pub characterIn : (bytes : List ℕ) → (pair : ℕ) → ℕ
 characterIn bytes pair = getD bytes (headBytes + 2 * pair) 0
@@ -32,7 +32,8 @@ attributeIn bytes pair = getD bytes (headBytes + 2 * pair + 1) 0 % 16
 unfoldable pub pairDots : Machine → (table bytes : List ℕ) → (scan pair : ℕ) → List ℕ
 pairDots m table bytes scan pair =
     let shown = glyphScan (kindIn bytes) scan in
-    cellDots m (kindIn bytes) (attributeIn bytes pair) shown (glyphByte table (characterIn bytes pair) (scanAddress shown))
+    let glyph = glyphByte table (characterIn bytes pair) (scanAddress shown) in
+    cellDots m (kindIn bytes) (attributeIn bytes pair) shown glyph
 
 -- "The record's first capacity pairs are drawn"
 unfoldable pub rowDots : Machine → (table bytes : List ℕ) → (scan : ℕ) → List ℕ

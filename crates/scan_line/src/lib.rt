@@ -10,6 +10,11 @@ ghost use Rattle.scan_line.specs.Line.{rowDots, dotsOfLine, showsNothing
 ghost use Rattle.scan_line.specs.Call.{lengthsLine, onTube, drawnLine, drawLine};
 use machine::Machine;
 
+// "A line has 800 or 1,188 dots".
+const LINE_DOTS_80: usize = 800;
+
+const LINE_DOTS_132: usize = 1188;
+
 fn lengths_line(picture: usize, table: usize, line: usize) -> bool
     ensures { λ r. ⌜ r ≡ lengthsLine picture table line ⌝ }
 {
@@ -53,7 +58,11 @@ pub fn dots_of_line(machine: Machine) -> usize
     ensures { λ r. ⌜ r ≡ dotsOfLine machine ⌝ }
     ensures { λ r. ⌜ r ≤ lineBytes ⌝ }
 {
-    if machine.columns132 { 1188 } else { 800 }
+    if machine.columns132 {
+        LINE_DOTS_132
+    } else {
+        LINE_DOTS_80
+    }
 }
 
 // Makes the bytes from a place on 0.
@@ -110,7 +119,7 @@ fn draw_record(machine: Machine, bytes: &[u8], table: &[u8], scan: usize, line: 
     clear(line, dots_of_line(machine));
 }
 
-// The answer is the number of refusal, 0 where the line is drawn.
+// Draws the dots of one scan line of a row. The answer is the number of refusal, 0 where the line is drawn.
 pub fn draw(
     machine: Machine,
     picture: &[u8],

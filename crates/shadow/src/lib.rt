@@ -6,6 +6,7 @@ use lent::ByteRead;
 
 const LAST_PLACE: usize = 255;
 
+// Reads the low four bits of the byte at a place of the shadow.
 pub fn read_shadow(shadow: &[u8], place: usize) -> ByteRead
     ensures { λ r. ⌜ r ≡ readShadow (now (shadow .entry)) place ⌝ }
 {
@@ -18,7 +19,7 @@ pub fn read_shadow(shadow: &[u8], place: usize) -> ByteRead
     lent::byte_read(shadow[place] % 16)
 }
 
-// The answer is the number of refusal, 0 where the write is accepted.
+// Writes four bits at a place of the shadow. The answer is the number of refusal, 0 where it is accepted.
 pub fn write_shadow(shadow: &mut [u8], place: usize, value: u8) -> u8
     ensures { λ r. ⌜ writtenShadow r (now (shadow .exit)) ≡ writeShadow (now (shadow .entry)) place value ⌝ }
 {

@@ -1,4 +1,5 @@
--- Each way to a return has told whether bit 6 rises, and then whether bit 7 does; a copy leaves the one list in the other.
+-- Each way to a return has told whether bit 6 rises, and then whether bit 7 does; a copy leaves the one list in the
+-- other.
 use mathlib.Core.Path.{sym, _∙_}
 use borrow.Author.Needs.{needs}
 use Rattle.diagnostic.proofs.write_diagnostic.Statement.{statement}

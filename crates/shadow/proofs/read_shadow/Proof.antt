@@ -1,5 +1,5 @@
 use native.Mathlib.Omega.{arith}
-use borrow.Author.Tests.{eq-eqb, ne-eqb, le-leb, lt-leb}
+use borrow.Author.Tests.{eq-eqb, ne-eqb, lt-ltb, le-ltb}
 use borrow.Author.Needs.{needs}
 use Rattle.shadow.specs.Shadow.{lastPlace}
 use Rattle.shadow.proofs.read_shadow.Statement.{statement}
@@ -15,7 +15,7 @@ read-refused-requires-2 : tie.Need-read-refused-requires-2
 read-refused-requires-2 c κs = search needs
 
 returns-2 : tie.Need-returns-2
-returns-2 c = rw (eq-eqb _ _ (c .before .before .if1 .left), lt-leb (c .before .before .before .before .args .place) lastPlace (omega arith)) (c .read-refused2 .ensures)
+returns-2 c = rw (eq-eqb _ _ (c .before .before .if1 .left), lt-ltb lastPlace (c .before .before .before .before .args .place) (omega arith)) (c .read-refused2 .ensures)
 
 shared-slice-read-byte-read : tie.Need-shared-slice-read-byte-read
 shared-slice-read-byte-read c = search needs
@@ -24,7 +24,7 @@ byte-read-requires : tie.Need-byte-read-requires
 byte-read-requires c κs = search needs
 
 returns-3 : tie.Need-returns-3
-returns-3 c = rw (eq-eqb _ _ (c .before .before .before .if1 .left), le-leb (c .before .before .before .before .before .args .place) lastPlace (omega arith)) (c .byte-read .ensures)
+returns-3 c = rw (eq-eqb _ _ (c .before .before .before .if1 .left), le-ltb lastPlace (c .before .before .before .before .before .args .place) (omega arith)) (c .byte-read .ensures)
 
 pub read-shadow-spec : {M : Type 1} → statement M
 read-shadow-spec =

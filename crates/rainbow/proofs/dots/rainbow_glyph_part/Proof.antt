@@ -1,7 +1,8 @@
-use mathlib.Core.Path.{refl, sym}
+use mathlib.Core.Path.{refl, ap}
 use borrow.Author.Tests.{eq-eqb, ne-eqb}
 use borrow.Author.Needs.{needs}
-use Rattle.rainbow.specs.Part.{partPlace}
+use Rattle.glyphs.specs.Glyphs.{Slice}
+use Rattle.rainbow.proofs.Part.{placed}
 use Rattle.rainbow.proofs.dots.rainbow_glyph_part.Statement.{statement}
 use Rattle.rainbow.proofs.dots.rainbow_glyph_part.Tie as tie
 
@@ -12,19 +13,19 @@ refusal-requires : tie.Need-refusal-requires
 refusal-requires c κs = search needs
 
 returns : tie.Need-returns
-unfolding partPlace
 returns c =
     let h = c .before in
-    rw (sym (h .before .part .ensures), sym (h .refusal .ensures), ne-eqb _ _ (c .if1 .taken)) refl
+    let place = placed _ _ (search needs) (ap (λ (s : Slice). s .bytes) (h .before .part .ensures)) (h .refusal .ensures) in
+    rw (place, ne-eqb _ _ (c .if1 .taken)) refl
 
 mul-t8 : tie.Need-mul-t8
 mul-t8 c = search needs
 
 returns-2 : tie.Need-returns-2
-unfolding partPlace
 returns-2 c =
     let h = c .before in
-    rw (sym (h .before .part .ensures), sym (h .refusal .ensures), eq-eqb _ _ (c .if1 .left)) refl
+    let place = placed _ _ (search needs) (ap (λ (s : Slice). s .bytes) (h .before .part .ensures)) (h .refusal .ensures) in
+    rw (place, eq-eqb _ _ (c .if1 .left)) refl
 
 pub rainbow-glyph-part-spec : {M : Type 1} → statement M
 rainbow-glyph-part-spec = tie.close (tie.spec part-requires refusal-requires returns mul-t8 returns-2)
