@@ -1,46 +1,38 @@
 -- The picture is kept over whole runs: the statements of specs/Kept.antt.
 use Prim.Native.Nat.{ℕ}
-use mathlib.Core.Path.{_≡_, refl, sym, ap, _∙_}
+use mathlib.Core.Path.{_≡_, refl, subst, sym, ap, _∙_, fun-ext}
 use mathlib.Core.List.{List, [], _∷_}
-use mathlib.Core.Bool.{Bool, true, false, not, cond, true≢false, false≢true, and-eq-true-iff}
+use mathlib.Core.Bool.{Bool, true, false, not, cond, _&&_, _||_, true≢false, false≢true, and-false, and-eq-true-iff}
 use native.Mathlib.Omega.{arith}
 use lib.ListN.{length}
+use lib.Dec.{ltb}
 use borrow.Author.Tests.{not-true}
-use Rattle.lent.specs.Refusals.{accepted, lengthRefused}
+use Rattle.lent.specs.Refusals.{accepted, refuses, lengthRefused}
+use Rattle.lent.proofs.Tests.{either}
+use Rattle.memories.specs.View8088.{seen8088}
+use Rattle.memories.specs.ViewZ80.{sharedFrom}
+use Rattle.memories.specs.declared.view8088.Seen.{Seen}
+use Rattle.memories.specs.declared.view8088.Seen.the-variants.{Shared as InShared, Screen as InScreen, Attribute as InAttribute, Nowhere}
 use Rattle.memories.proofs.Laws.{lent8088}
+use Rattle.chain.proofs.Searching.{neither}
 use Rattle.picture.specs.Picture.{pictureOf}
 use Rattle.picture.specs.Draw.{lengthsPicture, DrawnPicture, chainOf}
-use Rattle.picture.proofs.Laws.{lentPicture, columns-fit}
-use Rattle.picture.proofs.Sizes.{picture-sized}
 use Rattle.mending.specs.Store.{lengthsWithPicture, storeWithPicture}
 use Rattle.mending.specs.True.{TruePicture}
-use Rattle.mending.proofs.Outcome.{lent-with-picture, refused-outcome}
+use Rattle.mending.proofs.Outcome.{lent-with-picture, wrong-outcome}
 use Rattle.mending.proofs.True.{keeps-true}
-use Rattle.runs.specs.World.{World, Call, Read8088, Store8088, ReadZ80, StoreZ80, ReadShadow, WriteShadow, WritePort, VerticalTick, Draw, StoreWithPicture, DrawLine, after, answer}
-use Rattle.runs.specs.Kept.{inRuns, allInRuns, sameColumns, played, playedAll, Kept, KeptByRuns, KeptFromDrawing, LeaveTheScreen}
-use Rattle.runs.proofs.Choice.{either}
+use Rattle.runs.specs.World.{Memory, Shared, Screen, Attribute, Picture, World, Call, Read8088, Store8088, ReadZ80, StoreZ80, ReadShadow, WriteShadow, WritePort, VerticalTick, Draw, StoreWithPicture, GlyphPart, DrawLine, after, answer}
+use Rattle.runs.specs.Reach.{Below0800, From0800, AllOf, has, storedAt, mayChange}
+use Rattle.runs.specs.Kept.{Lent, Own, Another, lentBytes, keptBytes, lending, keeping, leavesPictureBehind, Step, Made, Lending, stepped, inRuns, TheThreeAreIn, allInRuns, sameColumns, played, playedAll, Kept, KeptByRuns, KeptFromDrawing}
+use Rattle.runs.proofs.Refused.{changes-nothing}
+use Rattle.runs.proofs.Reach.{changes-only, lengths-stay}
 
--- whether a drawing is accepted
+-- whether a drawing is accepted; no call changes that
 abbrev drawable : World → Bool
-drawable w = lengthsPicture (length (w .screen)) (length (w .attribute)) (length (w .picture))
+drawable w = lengthsPicture (length (w .bytes Screen)) (length (w .bytes Attribute)) (length (w .bytes Picture))
 
-pub leave-the-screen : LeaveTheScreen
-leave-the-screen (Store8088 a b) w h = absurd (true≢false h)
-leave-the-screen (StoreWithPicture a b) w h = absurd (true≢false h)
-leave-the-screen (Read8088 a) w h = (refl, refl)
-leave-the-screen (ReadZ80 a) w h = (refl, refl)
-leave-the-screen (StoreZ80 a b) w h = (refl, refl)
-leave-the-screen (ReadShadow p) w h = (refl, refl)
-leave-the-screen (WriteShadow p b) w h = (refl, refl)
-leave-the-screen (WritePort p k) w h = (refl, refl)
-leave-the-screen VerticalTick w h = (refl, refl)
-leave-the-screen Draw w h = (refl, refl)
-leave-the-screen (DrawLine r s) w h = (refl, refl)
-
--- what a call of a run keeps
-record Keeps (w v : World) : Type 0 where
-  kept : Kept v
-  accepts : drawable v ≡ drawable w
+drawable-after : (call : Call) (w : World) → drawable (after call w) ≡ drawable w
+drawable-after call w = rw (lengths-stay call w Screen, lengths-stay call w Attribute, lengths-stay call w Picture)
 
 -- the four lengths of the store are the three of the drawing besides
 drawable-too :
@@ -54,99 +46,134 @@ drawable-too shared screen attribute picture h =
 
 module _ (w : World) where
   abbrev fresh : List ℕ
-  fresh = pictureOf (chainOf (w .machine) (w .screen) (w .attribute))
+  fresh = pictureOf (chainOf (w .machine) (w .bytes Screen) (w .bytes Attribute))
 
   -- a drawing keeps the picture that it drew, and a refused one changes nothing
-  drawing-keeps : Keeps w (after Draw w)
-  drawing-keeps = go (drawable w) refl
+  drawing-kept : Kept (after Draw w)
+  drawing-kept = go (drawable w) refl
     where
-      go : (b : Bool) → drawable w ≡ b → Keeps w (after Draw w)
+      go : (b : Bool) → drawable w ≡ b → Kept (after Draw w)
       go true h =
-          let long = lentPicture h .1 .1 in
-          record {
-            kept =
-                rw h
-                (either (λ (d : DrawnPicture). d .picture ≡ fresh)
-                (lengthsPicture (length (w .screen)) (length (w .attribute)) (length fresh)) _ _ (λ _. refl) (λ _. refl));
-            accepts =
-                rw h
-                (ap (lengthsPicture (length (w .screen)) (length (w .attribute)))
-                (picture-sized (chainOf (w .machine) (w .screen) (w .attribute)) (columns-fit (w .machine)) ∙ sym long)
-                ∙ h);
-          }
-      go false h = record { kept = rw (h, h); accepts = rw h h }
+          rw h
+          (either (λ (d : DrawnPicture). d .picture ≡ fresh)
+          (refuses (cond (not (lengthsPicture (length (w .bytes Screen)) (length (w .bytes Attribute)) (length fresh))) lengthRefused accepted))
+          _ _ (λ _. refl) (λ _. refl))
+      go false h = rw (h, h)
 
-  -- a world with the same screen, picture and column setting
-  same-keeps :
-      (v : World) → v .screen ≡ w .screen → v .attribute ≡ w .attribute → v .picture ≡ w .picture
-      → v .machine .columns132 ≡ w .machine .columns132 → Kept w → Keeps w v
-  same-keeps v s a p c k = record { kept = rw (s, a, p, c) k; accepts = rw (s, a, p) }
-
-  store-keeps : (a b : ℕ) → Kept w → Keeps w (after (StoreWithPicture a b) w)
-  store-keeps a b k =
-      go (lengthsWithPicture (length (w .shared)) (length (w .screen)) (length (w .attribute)) (length (w .picture))) refl
+  store-kept : (a b : ℕ) → Kept w → Kept (after (StoreWithPicture a b) w)
+  store-kept a b k =
+      go (lengthsWithPicture (length (w .bytes Shared)) (length (w .bytes Screen)) (length (w .bytes Attribute)) (length (w .bytes Picture))) refl
     where
       go :
           (right : Bool)
-          → lengthsWithPicture (length (w .shared)) (length (w .screen)) (length (w .attribute)) (length (w .picture)) ≡ right
-          → Keeps w (after (StoreWithPicture a b) w)
+          → lengthsWithPicture (length (w .bytes Shared)) (length (w .bytes Screen)) (length (w .bytes Attribute)) (length (w .bytes Picture)) ≡ right
+          → Kept (after (StoreWithPicture a b) w)
       go true h =
-          let drawn = drawable-too (length (w .shared)) (length (w .screen)) (length (w .attribute)) (length (w .picture)) h in
-          let is-fresh : fresh ≡ w .picture = rw drawn at k in
-          let left = storeWithPicture (w .machine) (w .shared) (w .screen) (w .attribute) (w .picture) a b in
-          let is-true : TruePicture (w .machine) (w .shared) (w .screen) (w .attribute) (w .picture) =
+          let drawn = drawable-too (length (w .bytes Shared)) (length (w .bytes Screen)) (length (w .bytes Attribute)) (length (w .bytes Picture)) h in
+          let is-fresh : fresh ≡ w .bytes Picture = rw drawn at k in
+          let left = storeWithPicture (w .machine) (w .bytes Shared) (w .bytes Screen) (w .bytes Attribute) (w .bytes Picture) a b in
+          let is-true : TruePicture (w .machine) (w .bytes Shared) (w .bytes Screen) (w .bytes Attribute) (w .bytes Picture) =
           record { lengths = h; fresh = sym is-fresh } in
-          let t = keeps-true (w .machine) (w .shared) (w .screen) (w .attribute) (w .picture) a b is-true in
+          let t = keeps-true (w .machine) (w .bytes Shared) (w .bytes Screen) (w .bytes Attribute) (w .bytes Picture) a b is-true in
           let draws =
           drawable-too (length (left .shared)) (length (left .screen)) (length (left .attribute)) (length (left .picture))
           (t .lengths) in
-          record { kept = rw draws (sym (t .fresh)); accepts = draws ∙ sym drawn }
+          rw draws (sym (t .fresh))
       go false h =
-          rw (← refused-outcome (w .machine) (w .shared) (w .screen) (w .attribute) (w .picture) a b h)
-          (record { kept = k; accepts = refl })
+          rw (← wrong-outcome (w .machine) (w .bytes Shared) (w .bytes Screen) (w .bytes Attribute) (w .bytes Picture) a b h) k
 
--- a call of a run, with the drawing after it if the column setting changed
-call-keeps :
-    (call : Call) (w : World) → (sameColumns w (after call w) ≡ true → Kept w → Keeps w (after call w)) → drawable (after call w) ≡ drawable w
-    → Kept w → Keeps w (played call w)
-call-keeps call w keeps accepts k = go (sameColumns w (after call w)) refl
-  where
-    go : (b : Bool) → sameColumns w (after call w) ≡ b → Keeps w (cond b (after call w) (after Draw (after call w)))
-    go true same = keeps same k
-    go false other =
-        let drawn = drawing-keeps (after call w) in
-        record { kept = drawn .kept; accepts = drawn .accepts ∙ accepts }
-
--- a call that leaves screen, attribute and picture
-quiet-keeps :
-    (call : Call) (w : World) → after call w .screen ≡ w .screen → after call w .attribute ≡ w .attribute
-    → after call w .picture ≡ w .picture → Kept w → Keeps w (played call w)
-quiet-keeps call w s a p =
-    call-keeps call w (λ same. same-keeps w (after call w) s a p (setting (w .machine .columns132) _ same)) (rw (s, a, p))
+-- a call that leaves screen, attribute, picture and column setting
+same-kept :
+    (w v : World) → v .bytes Screen ≡ w .bytes Screen → v .bytes Attribute ≡ w .bytes Attribute → v .bytes Picture ≡ w .bytes Picture
+    → sameColumns w v ≡ true → Kept w → Kept v
+same-kept w v s a p c k = rw (s, a, p, setting (w .machine .columns132) (v .machine .columns132) c) k
   where
     setting : (before new : Bool) → cond before new (not new) ≡ true → new ≡ before
     setting true new h = h
     setting false new h = not-true new h
 
-one-keeps : (call : Call) (w : World) → inRuns call ≡ true → Kept w → Keeps w (played call w)
-one-keeps (Store8088 a b) w h k = absurd (false≢true h)
-one-keeps (StoreWithPicture a b) w h k =
-    call-keeps (StoreWithPicture a b) w (λ _. store-keeps w a b) (store-keeps w a b k .accepts) k
-one-keeps Draw w h k = call-keeps Draw w (λ _ _. drawing-keeps w) (drawing-keeps w .accepts) k
-one-keeps (Read8088 a) w h k = quiet-keeps (Read8088 a) w refl refl refl k
-one-keeps (ReadZ80 a) w h k = quiet-keeps (ReadZ80 a) w refl refl refl k
-one-keeps (StoreZ80 a b) w h k = quiet-keeps (StoreZ80 a b) w refl refl refl k
-one-keeps (ReadShadow p) w h k = quiet-keeps (ReadShadow p) w refl refl refl k
-one-keeps (WriteShadow p b) w h k = quiet-keeps (WriteShadow p b) w refl refl refl k
-one-keeps (WritePort p c) w h k = quiet-keeps (WritePort p c) w refl refl refl k
-one-keeps VerticalTick w h k = quiet-keeps VerticalTick w refl refl refl k
-one-keeps (DrawLine r s) w h k = quiet-keeps (DrawLine r s) w refl refl refl k
+quiet-kept :
+    (call : Call) (w : World) → mayChange call (AllOf Picture) ≡ false → leavesPictureBehind call ≡ false
+    → sameColumns w (after call w) ≡ true → Kept w → Kept (after call w)
+quiet-kept call w apart behind same k =
+    let none = neither (mayChange call (AllOf Screen)) (mayChange call (AllOf Attribute)) (reads (mayChange call (AllOf Picture)) apart _ behind) in
+    same-kept w (after call w) (changes-only call w (AllOf Screen) (none .0)) (changes-only call w (AllOf Attribute) (none .1))
+    (changes-only call w (AllOf Picture) apart) same k
+  where
+    reads : (p : Bool) → p ≡ false → (b : Bool) → (b && not p) ≡ false → b ≡ false
+    reads true e b h = absurd (true≢false e)
+    reads false e true h = absurd (true≢false h)
+    reads false e false h = refl
+
+pub the-three-are-in : TheThreeAreIn
+unfolding has
+the-three-are-in address byte port code w = (rw and-false, (refl, refl))
+
+-- the store with no picture leaves the picture
+picture-apart : (seen : Seen) → has (storedAt seen) (AllOf Picture) ≡ false
+unfolding has
+picture-apart (InShared place) = go (ltb place sharedFrom)
+  where
+    go : (b : Bool) → has (cond b Below0800 From0800 ∷ []) (AllOf Picture) ≡ false
+    go true = refl
+    go false = refl
+picture-apart (InScreen place) = refl
+picture-apart (InAttribute place) = refl
+picture-apart Nowhere = refl
+
+call-kept :
+    (call : Call) (w : World) → leavesPictureBehind call ≡ false → sameColumns w (after call w) ≡ true → Kept w → Kept (after call w)
+unfolding has
+call-kept (Store8088 a b) w h c k = quiet-kept (Store8088 a b) w (picture-apart (seen8088 a)) h c k
+call-kept (StoreWithPicture a b) w h c k = store-kept w a b k
+call-kept Draw w h c k = drawing-kept w
+call-kept (Read8088 a) w h c k = k
+call-kept (ReadZ80 a) w h c k = k
+call-kept (StoreZ80 a b) w h c k = quiet-kept (StoreZ80 a b) w refl h c k
+call-kept (ReadShadow p) w h c k = k
+call-kept (WriteShadow p b) w h c k = quiet-kept (WriteShadow p b) w refl h c k
+call-kept (WritePort p n) w h c k = quiet-kept (WritePort p n) w refl h c k
+call-kept VerticalTick w h c k = quiet-kept VerticalTick w refl h c k
+call-kept (GlyphPart n) w h c k = k
+call-kept (DrawLine r s) w h c k = quiet-kept (DrawLine r s) w refl h c k
+
+-- a call that was lent other memories and refused leaves the world that is kept
+lending-stays : (lent : Memory → Lent) (call : Call) (w : World) → inRuns (Lending lent call) w ≡ true → stepped (Lending lent call) w ≡ w
+lending-stays lent call w h =
+    ap (keeping lent w) (changes-nothing call (lending lent w) (λ e. false≢true (sym (ap refuses e) ∙ h)) .0)
+    ∙ ap (λ (bytes : Memory → List ℕ). record { machine = w .machine; bytes = bytes })
+    (fun-ext (λ memory. own (lent memory) (w .bytes memory)))
+  where
+    own : (one : Lent) (bytes : List ℕ) → keptBytes one bytes (lentBytes one bytes) ≡ bytes
+    own Own bytes = refl
+    own (Another other) bytes = refl
+
+-- a step, with the drawing after it if the column setting changed
+step-kept : (step : Step) (w : World) → inRuns step w ≡ true → Kept w → Kept (played step w) × (drawable (played step w) ≡ drawable w)
+step-kept (Made call) w h k = go (sameColumns w (after call w)) refl
+  where
+    go :
+        (b : Bool) → sameColumns w (after call w) ≡ b
+        → let last = cond b (after call w) (after Draw (after call w)) in Kept last × (drawable last ≡ drawable w)
+    go true same = (call-kept call w (not-true _ h) same k, drawable-after call w)
+    go false other = (drawing-kept (after call w), drawable-after Draw (after call w) ∙ drawable-after call w)
+step-kept (Lending lent call) w h k =
+    subst Plays (sym (lending-stays lent call w h)) (rw (one-setting (w .machine .columns132)) (k, refl))
+  where
+    Plays : World → Type 0
+    Plays new = let last = cond (sameColumns w new) new (after Draw new) in Kept last × (drawable last ≡ drawable w)
+
+    one-setting : (b : Bool) → cond b b (not b) ≡ true
+    one-setting true = refl
+    one-setting false = refl
 
 -- what a drawing answers
 drawing-answers : (w : World) → answer Draw w .refusal ≡ cond (drawable w) accepted lengthRefused
-drawing-answers w =
-    either (λ (d : DrawnPicture). d .answer .refusal ≡ cond (drawable w) accepted lengthRefused) (drawable w) _ _
-    (λ h. rw h) (λ h. rw h)
+drawing-answers w = go (drawable w) refl
+  where
+    go : (b : Bool) → drawable w ≡ b → answer Draw w .refusal ≡ cond b accepted lengthRefused
+    go true h = rw h
+    go false h = rw h
 
 same-answer : (w v : World) → drawable v ≡ drawable w → answer Draw v .refusal ≡ answer Draw w .refusal
 same-answer w v e =
@@ -154,25 +181,20 @@ same-answer w v e =
 
 pub kept-by-runs : KeptByRuns
 kept-by-runs [] w all k = (k, refl)
-kept-by-runs (call ∷ calls) w all k =
-    let both = and-eq-true-iff (inRuns call) (allInRuns calls) .0 all in
-    let one = one-keeps call w (both .0) k in
-    let rest = kept-by-runs calls (played call w) (both .1) (one .kept) in
-    (rest .0, rest .1 ∙ same-answer w (played call w) (one .accepts))
+kept-by-runs (step ∷ steps) w all k =
+    let both = and-eq-true-iff (inRuns step w) (allInRuns steps (played step w)) .0 all in
+    let one = step-kept step w (both .0) k in
+    let rest = kept-by-runs steps (played step w) (both .1) (one .0) in
+    (rest .0, rest .1 ∙ same-answer w (played step w) (one .1))
 
 pub kept-from-drawing : KeptFromDrawing
-kept-from-drawing calls w all accepts =
-    let drawn = drawing-keeps w in
-    let run = kept-by-runs calls (after Draw w) all (drawn .kept) in
-    is-fresh (playedAll calls (after Draw w)) (run .1 ∙ same-answer w (after Draw w) (drawn .accepts) ∙ accepts) (run .0)
+kept-from-drawing steps w all accepts =
+    let run = kept-by-runs steps (after Draw w) all (drawing-kept w) in
+    is-fresh (playedAll steps (after Draw w)) (run .1 ∙ same-answer w (after Draw w) (drawable-after Draw w) ∙ accepts) (run .0)
   where
-    is-fresh :
-        (v : World) → answer Draw v .refusal ≡ accepted → Kept v
-        → v .picture ≡ pictureOf (chainOf (v .machine) (v .screen) (v .attribute))
+    is-fresh : (v : World) → answer Draw v .refusal ≡ accepted → Kept v → v .bytes Picture ≡ fresh v
     is-fresh v h k = go (drawable v) refl (sym (drawing-answers v) ∙ h)
       where
-        go :
-            (b : Bool) → drawable v ≡ b → cond (drawable v) accepted lengthRefused ≡ accepted
-            → v .picture ≡ pictureOf (chainOf (v .machine) (v .screen) (v .attribute))
+        go : (b : Bool) → drawable v ≡ b → cond (drawable v) accepted lengthRefused ≡ accepted → v .bytes Picture ≡ fresh v
         go true e g = sym (rw e at k)
         go false e g = let refused : lengthRefused ≡ accepted = rw e at g in absurd (omega arith)

@@ -1,12 +1,12 @@
--- "That no second outcome meets it is shown": the promise of each call is one equation of its outcome, the answer and every
--- memory lent for change, with a definition of what the call was given. So two outcomes that meet it are one.
--- `Post` is the promise as the check reads it off the source: κs are the lifetimes, a the arguments, r the answer and s what
--- was lent as the call returns.
+-- "That no second outcome meets it is shown": the promise of each call is one equation of its outcome, the answer and
+-- every memory lent for change, with a definition of what the call was given. So two outcomes that meet it are one.
+-- `Post` is the promise as the check reads it off the source; specs/Once.antt says what is shown of it.
 use mathlib.Core.Path.{_≡_, sym, _∙_}
 use denote.Ref.{now}
 use Rattle.machine.proofs.Machine.power_up.Reads as power-up
 use Rattle.machine.proofs.Machine.vertical_tick.Reads as vertical-tick
 use Rattle.machine.proofs.Machine.columns.Reads as columns
+use Rattle.machine.proofs.Machine.scroll_latch.Reads as scroll-latch
 use Rattle.machine.proofs.Machine.blanked.Reads as blanked
 use Rattle.machine.proofs.Machine.graphics.Reads as graphics
 use Rattle.memories.specs.View8088.{stored8088}
@@ -27,18 +27,21 @@ use Rattle.listing.proofs.list_rows.Reads as list-rows
 use Rattle.marks.proofs.is_marked.Reads as is-marked
 use Rattle.mending.specs.Store.{storedWithPicture}
 use Rattle.mending.proofs.store_with_picture.Reads as store-with-picture
+use Rattle.glyphs.specs.Glyphs.{slice}
 use Rattle.glyphs.proofs.part.Reads as part
 use Rattle.glyphs.proofs.refusal.Reads as part-refusal
 use Rattle.scan_line.specs.Call.{drawnLine}
 use Rattle.scan_line.proofs.dots_of_line.Reads as dots-of-line
 use Rattle.scan_line.proofs.draw.Reads as draw-line
 use Rattle.commands.proofs.parse.Reads as parse
+use Rattle.commands.proofs.has_words.Reads as has-words
 use Rattle.commands.proofs.is_meant.Reads as is-meant
 use Rattle.commands.proofs.form_text.Reads as form-text
 use Rattle.commands.proofs.form_count.Reads as form-count
 use Rattle.rainbow.proofs.machine_calls.rainbow_power_up.Reads as c-power-up
 use Rattle.rainbow.proofs.machine_calls.rainbow_vertical_tick.Reads as c-vertical-tick
 use Rattle.rainbow.proofs.machine_calls.rainbow_columns.Reads as c-columns
+use Rattle.rainbow.proofs.machine_calls.rainbow_scroll_latch.Reads as c-scroll-latch
 use Rattle.rainbow.proofs.machine_calls.rainbow_blanked.Reads as c-blanked
 use Rattle.rainbow.proofs.machine_calls.rainbow_graphics.Reads as c-graphics
 use Rattle.rainbow.proofs.machine_calls.rainbow_version.Reads as c-version
@@ -55,147 +58,150 @@ use Rattle.rainbow.proofs.screen.rainbow_is_marked.Reads as c-is-marked
 use Rattle.rainbow.proofs.dots.rainbow_glyph_part.Reads as c-glyph-part
 use Rattle.rainbow.proofs.dots.rainbow_scan_line.Reads as c-scan-line
 use Rattle.rainbow.proofs.dots.rainbow_dots_of_line.Reads as c-dots-of-line
+use Rattle.runs.specs.Once.{Once, AnswersOnce}
 
 pub no-second : {A : Type 0} {promised one other : A} → one ≡ promised → other ≡ promised → one ≡ other
 no-second p q = p ∙ sym q
 
--- the outcome that a promise fixes is the only one that meets it
-abbrev pub Once :
-    {K : Type 0} {A R S : K → Type 0} {O : Type 0}
-    → ((κs : K) → A κs → R κs → S κs → Type 0) → ((κs : K) → R κs → S κs → O) → Type 0
-Once {K = K} {A = A} {R = R} {S = S} post outcome =
-    (κs : K) (a : A κs) (r r′ : R κs) (s s′ : S κs) → post κs a r s → post κs a r′ s′ → outcome κs r s ≡ outcome κs r′ s′
+pub power-up-once : AnswersOnce power-up.Post
+power-up-once κs a one two = no-second
 
-pub power-up-once : Once power-up.Post (λ κs r s. r)
-power-up-once κs a r r′ s s′ = no-second
+pub vertical-tick-once : AnswersOnce vertical-tick.Post
+vertical-tick-once κs a one two = no-second
 
-pub vertical-tick-once : Once vertical-tick.Post (λ κs r s. r)
-vertical-tick-once κs a r r′ s s′ = no-second
+pub columns-once : AnswersOnce columns.Post
+columns-once κs a one two = no-second
 
-pub columns-once : Once columns.Post (λ κs r s. r)
-columns-once κs a r r′ s s′ = no-second
+pub scroll-latch-once : AnswersOnce scroll-latch.Post
+scroll-latch-once κs a one two = no-second
 
-pub blanked-once : Once blanked.Post (λ κs r s. r)
-blanked-once κs a r r′ s s′ = no-second
+pub blanked-once : AnswersOnce blanked.Post
+blanked-once κs a one two = no-second
 
-pub graphics-once : Once graphics.Post (λ κs r s. r)
-graphics-once κs a r r′ s s′ = no-second
+pub graphics-once : AnswersOnce graphics.Post
+graphics-once κs a one two = no-second
 
-pub read-8088-once : Once read-8088.Post (λ κs r s. r)
-read-8088-once κs a r r′ s s′ = no-second
+pub read-8088-once : AnswersOnce read-8088.Post
+read-8088-once κs a one two = no-second
 
 pub store-8088-once : Once store-8088.Post (λ κs r s. stored8088 r (now (s .0)) (now (s .1 .0)) (now (s .1 .1 .0)))
-store-8088-once κs a r r′ s s′ = no-second
+store-8088-once κs a one two = no-second
 
-pub read-z80-once : Once read-z80.Post (λ κs r s. r)
-read-z80-once κs a r r′ s s′ = no-second
+pub read-z80-once : AnswersOnce read-z80.Post
+read-z80-once κs a one two = no-second
 
 pub store-z80-once : Once store-z80.Post (λ κs r s. storedZ80 r (now (s .0)) (now (s .1 .0)))
-store-z80-once κs a r r′ s s′ = no-second
+store-z80-once κs a one two = no-second
 
-pub read-shadow-once : Once read-shadow.Post (λ κs r s. r)
-read-shadow-once κs a r r′ s s′ = no-second
+pub read-shadow-once : AnswersOnce read-shadow.Post
+read-shadow-once κs a one two = no-second
 
 pub write-shadow-once : Once write-shadow.Post (λ κs r s. writtenShadow r (now (s .0)))
-write-shadow-once κs a r r′ s s′ = no-second
+write-shadow-once κs a one two = no-second
 
 pub write-port-once : Once write-port.Post (λ κs r s. writtenPort r (now (s .1 .0)) (now (s .1 .1 .0)))
-write-port-once κs a r r′ s s′ = no-second
+write-port-once κs a one two = no-second
 
 pub draw-once : Once draw.Post (λ κs r s. drawn r (now (s .1 .1 .1 .0)))
-draw-once κs a r r′ s s′ = no-second
+draw-once κs a one two = no-second
 
 pub store-with-picture-once :
     Once store-with-picture.Post
     (λ κs r s. storedWithPicture r (now (s .1 .0)) (now (s .1 .1 .0)) (now (s .1 .1 .1 .0)) (now (s .1 .1 .1 .1 .0)))
-store-with-picture-once κs a r r′ s s′ = no-second
+store-with-picture-once κs a one two = no-second
 
-pub is-marked-once : Once is-marked.Post (λ κs r s. r)
-is-marked-once κs a r r′ s s′ = no-second
+pub is-marked-once : AnswersOnce is-marked.Post
+is-marked-once κs a one two = no-second
 
-pub part-once : Once part.Post (λ κs r s. now r)
-part-once κs a r r′ s s′ = no-second
+pub part-once : Once part.Post (λ κs r s. slice (r .ptr) (now r))
+part-once κs a one two = no-second
 
-pub part-refusal-once : Once part-refusal.Post (λ κs r s. r)
-part-refusal-once κs a r r′ s s′ = no-second
+pub part-refusal-once : AnswersOnce part-refusal.Post
+part-refusal-once κs a one two = no-second
 
 pub draw-line-once : Once draw-line.Post (λ κs r s. drawnLine r (now (s .1 .1 .1 .1 .1 .0)))
-draw-line-once κs a r r′ s s′ = no-second
+draw-line-once κs a one two = no-second
 
 -- that they fit a line follows from the first clause
-pub dots-of-line-once : Once dots-of-line.Post (λ κs r s. r)
-dots-of-line-once κs a r r′ s s′ p q = no-second (p .0) (q .0)
+pub dots-of-line-once : AnswersOnce dots-of-line.Post
+dots-of-line-once κs a one two p q = no-second (p .0) (q .0)
 
 -- what the programs are made of; the length of the lister's text follows from the first clause of its promise
 pub list-rows-once : Once list-rows.Post (λ κs r s. listed r (now (s .1 .1 .1 .0)) (now (s .1 .1 .1 .1 .0)))
-list-rows-once κs a r r′ s s′ p q = no-second (p .0) (q .0)
+list-rows-once κs a one two p q = no-second (p .0) (q .0)
 
-pub parse-once : Once parse.Post (λ κs r s. r)
-parse-once κs a r r′ s s′ = no-second
+pub parse-once : AnswersOnce parse.Post
+parse-once κs a one two = no-second
 
-pub is-meant-once : Once is-meant.Post (λ κs r s. r)
-is-meant-once κs a r r′ s s′ = no-second
+pub has-words-once : AnswersOnce has-words.Post
+has-words-once κs a one two = no-second
+
+pub is-meant-once : AnswersOnce is-meant.Post
+is-meant-once κs a one two = no-second
 
 pub form-text-once : Once form-text.Post (λ κs r s. now r)
-form-text-once κs a r r′ s s′ = no-second
+form-text-once κs a one two = no-second
 
-pub form-count-once : Once form-count.Post (λ κs r s. r)
-form-count-once κs a r r′ s s′ = no-second
+pub form-count-once : AnswersOnce form-count.Post
+form-count-once κs a one two = no-second
 
 -- the same of the calls under names of C
-pub c-power-up-once : Once c-power-up.Post (λ κs r s. r)
-c-power-up-once κs a r r′ s s′ = no-second
+pub c-power-up-once : AnswersOnce c-power-up.Post
+c-power-up-once κs a one two = no-second
 
-pub c-vertical-tick-once : Once c-vertical-tick.Post (λ κs r s. r)
-c-vertical-tick-once κs a r r′ s s′ = no-second
+pub c-vertical-tick-once : AnswersOnce c-vertical-tick.Post
+c-vertical-tick-once κs a one two = no-second
 
-pub c-columns-once : Once c-columns.Post (λ κs r s. r)
-c-columns-once κs a r r′ s s′ = no-second
+pub c-columns-once : AnswersOnce c-columns.Post
+c-columns-once κs a one two = no-second
 
-pub c-blanked-once : Once c-blanked.Post (λ κs r s. r)
-c-blanked-once κs a r r′ s s′ = no-second
+pub c-scroll-latch-once : AnswersOnce c-scroll-latch.Post
+c-scroll-latch-once κs a one two = no-second
 
-pub c-graphics-once : Once c-graphics.Post (λ κs r s. r)
-c-graphics-once κs a r r′ s s′ = no-second
+pub c-blanked-once : AnswersOnce c-blanked.Post
+c-blanked-once κs a one two = no-second
 
-pub c-version-once : Once c-version.Post (λ κs r s. r)
-c-version-once κs a r r′ s s′ = no-second
+pub c-graphics-once : AnswersOnce c-graphics.Post
+c-graphics-once κs a one two = no-second
+
+pub c-version-once : AnswersOnce c-version.Post
+c-version-once κs a one two = no-second
 
 pub c-write-port-once : Once c-write-port.Post (λ κs r s. writtenPort r (now (s .1 .0)) (now (s .1 .1 .0)))
-c-write-port-once κs a r r′ s s′ = no-second
+c-write-port-once κs a one two = no-second
 
-pub c-read-8088-once : Once c-read-8088.Post (λ κs r s. r)
-c-read-8088-once κs a r r′ s s′ = no-second
+pub c-read-8088-once : AnswersOnce c-read-8088.Post
+c-read-8088-once κs a one two = no-second
 
 pub c-store-8088-once : Once c-store-8088.Post (λ κs r s. stored8088 r (now (s .0)) (now (s .1 .0)) (now (s .1 .1 .0)))
-c-store-8088-once κs a r r′ s s′ = no-second
+c-store-8088-once κs a one two = no-second
 
-pub c-read-z80-once : Once c-read-z80.Post (λ κs r s. r)
-c-read-z80-once κs a r r′ s s′ = no-second
+pub c-read-z80-once : AnswersOnce c-read-z80.Post
+c-read-z80-once κs a one two = no-second
 
 pub c-store-z80-once : Once c-store-z80.Post (λ κs r s. storedZ80 r (now (s .0)) (now (s .1 .0)))
-c-store-z80-once κs a r r′ s s′ = no-second
+c-store-z80-once κs a one two = no-second
 
-pub c-read-shadow-once : Once c-read-shadow.Post (λ κs r s. r)
-c-read-shadow-once κs a r r′ s s′ = no-second
+pub c-read-shadow-once : AnswersOnce c-read-shadow.Post
+c-read-shadow-once κs a one two = no-second
 
 pub c-write-shadow-once : Once c-write-shadow.Post (λ κs r s. writtenShadow r (now (s .0)))
-c-write-shadow-once κs a r r′ s s′ = no-second
+c-write-shadow-once κs a one two = no-second
 
 pub c-draw-once : Once c-draw.Post (λ κs r s. drawn r (now (s .1 .1 .1 .0)))
-c-draw-once κs a r r′ s s′ = no-second
+c-draw-once κs a one two = no-second
 
 pub c-store-with-picture-once : Once c-store-with-picture.Post (λ κs r s. storedWithPicture r (now (s .1 .0)) (now (s .1 .1 .0)) (now (s .1 .1 .1 .0)) (now (s .1 .1 .1 .1 .0)))
-c-store-with-picture-once κs a r r′ s s′ = no-second
+c-store-with-picture-once κs a one two = no-second
 
-pub c-is-marked-once : Once c-is-marked.Post (λ κs r s. r)
-c-is-marked-once κs a r r′ s s′ = no-second
+pub c-is-marked-once : AnswersOnce c-is-marked.Post
+c-is-marked-once κs a one two = no-second
 
-pub c-glyph-part-once : Once c-glyph-part.Post (λ κs r s. r)
-c-glyph-part-once κs a r r′ s s′ = no-second
+pub c-glyph-part-once : AnswersOnce c-glyph-part.Post
+c-glyph-part-once κs a one two = no-second
 
 pub c-scan-line-once : Once c-scan-line.Post (λ κs r s. drawnLine r (now (s .1 .1 .1 .1 .1 .0)))
-c-scan-line-once κs a r r′ s s′ = no-second
+c-scan-line-once κs a one two = no-second
 
-pub c-dots-of-line-once : Once c-dots-of-line.Post (λ κs r s. r)
-c-dots-of-line-once κs a r r′ s s′ = no-second
+pub c-dots-of-line-once : AnswersOnce c-dots-of-line.Post
+c-dots-of-line-once κs a one two = no-second

@@ -1,78 +1,96 @@
--- The owner's third demand: "Start from a picture drawn afresh, and redraw at once after each change of column setting. Then
--- after any run of 8088 stores, Z80 stores and port writes, refused ones among them, the kept picture equals one drawn afresh
--- from memory."
+-- The owner's third demand: "Start from a picture drawn afresh, and redraw at once after each change of column setting.
+-- Then after any run of 8088 stores, Z80 stores and port writes, refused ones among them, the kept picture equals one
+-- drawn afresh from memory."
+use Prim.Native.Nat.{ℕ}
 use mathlib.Core.Path.{_≡_}
 use mathlib.Core.List.{List, [], _∷_}
-use mathlib.Core.Bool.{Bool, true, false, not, cond, _&&_}
-use Rattle.lent.specs.Refusals.{accepted}
+use mathlib.Core.Bool.{Bool, true, not, cond, _&&_, _||_}
+use Rattle.lent.specs.Refusals.{accepted, refuses}
 use Rattle.picture.specs.Picture.{pictureOf}
 use Rattle.picture.specs.Draw.{chainOf}
-use Rattle.runs.specs.World.{World, Call, Read8088, Store8088, ReadZ80, StoreZ80, ReadShadow, WriteShadow, WritePort, VerticalTick, Draw, StoreWithPicture, DrawLine, after, answer}
+use Rattle.runs.specs.World.{Memory, Screen, Attribute, Picture, World, Call, StoreZ80, WritePort, Draw, StoreWithPicture, after, answer}
+use Rattle.runs.specs.Reach.{AllOf, mayChange}
 
--- "A store with no picture .. is not in demand 3's runs". Every other call is, though the demand names three alone.
-abbrev pub inRuns : Call → Bool
-inRuns (Store8088 address byte) = false
-inRuns (Read8088 address) = true
-inRuns (ReadZ80 address) = true
-inRuns (StoreZ80 address byte) = true
-inRuns (ReadShadow place) = true
-inRuns (WriteShadow place value) = true
-inRuns (WritePort port code) = true
-inRuns VerticalTick = true
-inRuns Draw = true
-inRuns (StoreWithPicture address byte) = true
-inRuns (DrawLine row scan) = true
+-- in place of a memory a caller may lend another
+pub data Lent : Type 0 where
+  Own : Lent
+  Another : (bytes : List ℕ) → Lent
 
-abbrev pub allInRuns : List Call → Bool
-allInRuns [] = true
-allInRuns (call ∷ calls) = inRuns call && allInRuns calls
+abbrev pub lentBytes : Lent → (own : List ℕ) → List ℕ
+lentBytes Own own = own
+lentBytes (Another bytes) own = bytes
+
+-- what is kept of a memory is what the call left in it, unless another was lent
+abbrev pub keptBytes : Lent → (own new : List ℕ) → List ℕ
+keptBytes Own own new = new
+keptBytes (Another bytes) own new = own
+
+abbrev pub lending : (Memory → Lent) → World → World
+lending lent w = record { machine = w .machine; bytes = λ memory. lentBytes (lent memory) (w .bytes memory) }
+
+abbrev pub keeping : (Memory → Lent) → (own new : World) → World
+keeping lent own new =
+    record { machine = new .machine; bytes = λ memory. keptBytes (lent memory) (own .bytes memory) (new .bytes memory) }
+
+-- a step of a run: a call with the memories that are kept, or one with others in place of some
+pub data Step : Type 0 where
+  Made : Call → Step
+  Lending : (Memory → Lent) → Call → Step
+
+abbrev pub stepped : Step → World → World
+stepped (Made call) w = after call w
+stepped (Lending lent call) w = keeping lent w (after call (lending lent w))
+
+-- "A store with no picture .. is not in demand 3's runs": a call that may change what the picture is drawn from keeps
+-- the picture. Every other call is in them, though the demand names three alone
+abbrev pub leavesPictureBehind : Call → Bool
+leavesPictureBehind call =
+    (mayChange call (AllOf Screen) || mayChange call (AllOf Attribute)) && not (mayChange call (AllOf Picture))
+
+-- "refused ones among them": with other memories lent, of a wrong length it may be, a call is in the runs if it is
+-- refused
+abbrev pub inRuns : Step → World → Bool
+inRuns (Made call) w = not (leavesPictureBehind call)
+inRuns (Lending lent call) w = refuses (answer call (lending lent w) .refusal)
+
+-- "8088 stores, Z80 stores and port writes" are in the runs, all of them
+abbrev pub TheThreeAreIn : Type 0
+TheThreeAreIn =
+    (address byte port code : ℕ) (w : World)
+    → (inRuns (Made (StoreWithPicture address byte)) w ≡ true)
+    × ((inRuns (Made (StoreZ80 address byte)) w ≡ true) × (inRuns (Made (WritePort port code)) w ≡ true))
 
 -- whether two worlds have one column setting
 abbrev pub sameColumns : World → World → Bool
 sameColumns w v = cond (w .machine .columns132) (v .machine .columns132) (not (v .machine .columns132))
 
--- a call, and "redraw at once after each change of column setting"
-abbrev pub played : Call → World → World
-played call w = let new = after call w in cond (sameColumns w new) new (after Draw new)
+-- a step, and "redraw at once after each change of column setting"
+abbrev pub played : Step → World → World
+played step w = let new = stepped step w in cond (sameColumns w new) new (after Draw new)
 
-abbrev pub playedAll : List Call → World → World
+abbrev pub playedAll : List Step → World → World
 playedAll [] w = w
-playedAll (call ∷ calls) w = playedAll calls (played call w)
+playedAll (step ∷ steps) w = playedAll steps (played step w)
+
+abbrev pub allInRuns : List Step → World → Bool
+allInRuns [] w = true
+allInRuns (step ∷ steps) w = inRuns step w && allInRuns steps (played step w)
 
 -- the picture equals one drawn afresh: a drawing made now would leave it as it is
 abbrev pub Kept : World → Type 0
-Kept w = after Draw w .picture ≡ w .picture
+Kept w = after Draw w .bytes Picture ≡ w .bytes Picture
 
--- "the kept picture equals one drawn afresh from memory": what is kept before a run is kept after it, and a drawing is accepted
--- after it exactly if it was before
+-- "the kept picture equals one drawn afresh from memory": what is kept before a run is kept after it, and a drawing is
+-- accepted after it exactly if it was before
 abbrev pub KeptByRuns : Type 0
 KeptByRuns =
-    (calls : List Call) (w : World) → allInRuns calls ≡ true → Kept w
-    → let last = playedAll calls w in
+    (steps : List Step) (w : World) → allInRuns steps w ≡ true → Kept w
+    → let last = playedAll steps w in
     Kept last × (answer Draw last .refusal ≡ answer Draw w .refusal)
 
 -- "Start from a picture drawn afresh"
 abbrev pub KeptFromDrawing : Type 0
 KeptFromDrawing =
-    (calls : List Call) (w : World) → allInRuns calls ≡ true → answer Draw w .refusal ≡ accepted
-    → let last = playedAll calls (after Draw w) in
-    last .picture ≡ pictureOf (chainOf (last .machine) (last .screen) (last .attribute))
-
--- the Z80, the ports and all other calls but the 8088's two stores leave screen and attribute memory
-abbrev pub storesByThe8088 : Call → Bool
-storesByThe8088 (Store8088 address byte) = true
-storesByThe8088 (StoreWithPicture address byte) = true
-storesByThe8088 (Read8088 address) = false
-storesByThe8088 (ReadZ80 address) = false
-storesByThe8088 (StoreZ80 address byte) = false
-storesByThe8088 (ReadShadow place) = false
-storesByThe8088 (WriteShadow place value) = false
-storesByThe8088 (WritePort port code) = false
-storesByThe8088 VerticalTick = false
-storesByThe8088 Draw = false
-storesByThe8088 (DrawLine row scan) = false
-
-abbrev pub LeaveTheScreen : Type 0
-LeaveTheScreen =
-    (call : Call) (w : World) → storesByThe8088 call ≡ false
-    → (after call w .screen ≡ w .screen) × (after call w .attribute ≡ w .attribute)
+    (steps : List Step) (w : World) → allInRuns steps (after Draw w) ≡ true → answer Draw w .refusal ≡ accepted
+    → let last = playedAll steps (after Draw w) in
+    last .bytes Picture ≡ pictureOf (chainOf (last .machine) (last .bytes Screen) (last .bytes Attribute))

@@ -1,31 +1,60 @@
--- What the calls act on, and what each call does to it, by the definition that the call's promise cites.
+-- What the calls act on, and what each call answers and leaves, by the definition that the call's promise cites.
 use Prim.Native.Nat.{ℕ}
-use mathlib.Core.List.{List}
+use mathlib.Core.List.{List, [], _∷_}
+use mathlib.Core.Bool.{Bool, cond}
+use lib.Dec.{eqb}
 use Rattle.lent.specs.Refusals.{accepted}
-use Rattle.lent.specs.Answer.{readRefused}
 use Rattle.lent.specs.declared.ByteRead.{ByteRead}
 use Rattle.machine.specs.Power.{verticalTick}
 use Rattle.machine.specs.declared.Machine.{Machine}
-use Rattle.memories.specs.View8088.{read8088, store8088, Stored8088}
-use Rattle.memories.specs.ViewZ80.{readZ80, storeZ80, StoredZ80}
+use Rattle.memories.specs.View8088.{read8088, store8088}
+use Rattle.memories.specs.ViewZ80.{readZ80, storeZ80}
 use Rattle.shadow.specs.Shadow.{readShadow, writeShadow}
 use Rattle.ports.specs.Ports.{writePort}
 use Rattle.picture.specs.Draw.{draw}
-use Rattle.mending.specs.Store.{storeWithPicture, StoredWithPicture}
+use Rattle.mending.specs.Store.{storeWithPicture}
+use Rattle.glyphs.specs.Glyphs.{glyphPart, partRefusal}
 use Rattle.scan_line.specs.Call.{drawLine}
+
+-- the memories of document 01's list, "Lent memory"
+pub data Memory : Type 0 where
+  Shared : Memory
+  Private : Memory
+  Screen : Memory
+  Attribute : Memory
+  Glyphs : Memory
+  Nvm : Memory
+  Shadow : Memory
+  Picture : Memory
+  Line : Memory
+
+-- which one it is in that list, by which two are told apart
+abbrev pub numberOf : Memory → ℕ
+numberOf Shared = 0
+numberOf Private = 1
+numberOf Screen = 2
+numberOf Attribute = 3
+numberOf Glyphs = 4
+numberOf Nvm = 5
+numberOf Shadow = 6
+numberOf Picture = 7
+numberOf Line = 8
+
+abbrev pub isMemory : (one other : Memory) → Bool
+isMemory one other = eqb (numberOf one) (numberOf other)
 
 -- the machine and the memories that a user keeps and lends
 pub record World : Type 0 where
   pub machine : Machine
-  pub shared : List ℕ
-  pub private : List ℕ
-  pub screen : List ℕ
-  pub attribute : List ℕ
-  pub nvm : List ℕ
-  pub shadow : List ℕ
-  pub picture : List ℕ
-  pub glyphs : List ℕ
-  pub line : List ℕ
+  pub bytes : Memory → List ℕ
+
+-- the world with another machine, and with other bytes in one memory
+abbrev pub withMachine : Machine → World → World
+withMachine machine w = record { machine = machine; bytes = w .bytes }
+
+abbrev pub withBytes : Memory → (new : List ℕ) → World → World
+withBytes memory new w =
+    record { machine = w .machine; bytes = λ one. cond (isMemory one memory) new (w .bytes one) }
 
 -- a call with its numbers
 pub data Call : Type 0 where
@@ -39,131 +68,68 @@ pub data Call : Type 0 where
   VerticalTick : Call
   Draw : Call
   StoreWithPicture : (address byte : ℕ) → Call
+  GlyphPart : (code : ℕ) → Call
   DrawLine : (row scan : ℕ) → Call
 
--- the world with what a call left in place of what it was lent
-abbrev pub left8088 : World → Stored8088 → World
-left8088 w left =
-    record {
-      machine = w .machine;
-      shared = left .shared;
-      private = w .private;
-      screen = left .screen;
-      attribute = left .attribute;
-      nvm = w .nvm;
-      shadow = w .shadow;
-      picture = w .picture;
-      glyphs = w .glyphs;
-      line = w .line;
-    }
+-- what a call answers: its number of refusal, and its other numbers: the byte read, the bytes that the walk read, the
+-- marks, the bytes of a part
+pub record Answer : Type 0 where
+  pub refusal : ℕ
+  pub numbers : List ℕ
 
-abbrev pub leftZ80 : World → StoredZ80 → World
-leftZ80 w left =
-    record {
-      machine = w .machine;
-      shared = left .shared;
-      private = left .private;
-      screen = w .screen;
-      attribute = w .attribute;
-      nvm = w .nvm;
-      shadow = w .shadow;
-      picture = w .picture;
-      glyphs = w .glyphs;
-      line = w .line;
-    }
+abbrev pub answered : (refusal : ℕ) → (numbers : List ℕ) → Answer
+answered refusal numbers = record { refusal = refusal; numbers = numbers }
 
-abbrev pub leftPort : World → Machine → List ℕ → List ℕ → World
-leftPort w machine shadow nvm =
-    record {
-      machine = machine;
-      shared = w .shared;
-      private = w .private;
-      screen = w .screen;
-      attribute = w .attribute;
-      nvm = nvm;
-      shadow = shadow;
-      picture = w .picture;
-      glyphs = w .glyphs;
-      line = w .line;
-    }
+abbrev pub readAnswer : ByteRead → Answer
+readAnswer read = answered (read .refusal) (read .byte ∷ [])
 
-abbrev pub leftDraw : World → List ℕ → World
-leftDraw w picture =
-    record {
-      machine = w .machine;
-      shared = w .shared;
-      private = w .private;
-      screen = w .screen;
-      attribute = w .attribute;
-      nvm = w .nvm;
-      shadow = w .shadow;
-      picture = picture;
-      glyphs = w .glyphs;
-      line = w .line;
-    }
+-- what a call answers, and the world that it leaves
+pub record Outcome : Type 0 where
+  pub answer : Answer
+  pub world : World
 
-abbrev pub leftWithPicture : World → StoredWithPicture → World
-leftWithPicture w left =
-    record {
-      machine = w .machine;
-      shared = left .shared;
-      private = w .private;
-      screen = left .screen;
-      attribute = left .attribute;
-      nvm = w .nvm;
-      shadow = w .shadow;
-      picture = left .picture;
-      glyphs = w .glyphs;
-      line = w .line;
-    }
+abbrev pub leaving : Answer → World → Outcome
+leaving answer world = record { answer = answer; world = world }
 
-abbrev pub leftLine : World → List ℕ → World
-leftLine w line =
-    record {
-      machine = w .machine;
-      shared = w .shared;
-      private = w .private;
-      screen = w .screen;
-      attribute = w .attribute;
-      nvm = w .nvm;
-      shadow = w .shadow;
-      picture = w .picture;
-      glyphs = w .glyphs;
-      line = line;
-    }
+abbrev pub outcome : Call → World → Outcome
+outcome (Read8088 address) w =
+    leaving (readAnswer (read8088 (w .bytes Shared) (w .bytes Screen) (w .bytes Attribute) address)) w
+outcome (Store8088 address byte) w =
+    let left = store8088 (w .bytes Shared) (w .bytes Screen) (w .bytes Attribute) address byte in
+    leaving (answered (left .refusal) [])
+    (withBytes Shared (left .shared) (withBytes Screen (left .screen) (withBytes Attribute (left .attribute) w)))
+outcome (ReadZ80 address) w = leaving (readAnswer (readZ80 (w .bytes Private) (w .bytes Shared) address)) w
+outcome (StoreZ80 address byte) w =
+    let left = storeZ80 (w .bytes Private) (w .bytes Shared) address byte in
+    leaving (answered (left .refusal) []) (withBytes Private (left .private) (withBytes Shared (left .shared) w))
+outcome (ReadShadow place) w = leaving (readAnswer (readShadow (w .bytes Shadow) place)) w
+outcome (WriteShadow place value) w =
+    let left = writeShadow (w .bytes Shadow) place value in
+    leaving (answered (left .refusal) []) (withBytes Shadow (left .shadow) w)
+outcome (WritePort port code) w =
+    let left = writePort (w .machine) (w .bytes Shadow) (w .bytes Nvm) port code in
+    leaving (answered (left .answer .refusal) [])
+    (withMachine (left .answer .machine) (withBytes Shadow (left .shadow) (withBytes Nvm (left .nvm) w)))
+outcome VerticalTick w = leaving (answered accepted []) (withMachine (verticalTick (w .machine)) w)
+outcome Draw w =
+    let left = draw (w .machine) (w .bytes Screen) (w .bytes Attribute) (w .bytes Picture) in
+    leaving (answered (left .answer .refusal) (left .answer .reads ∷ [])) (withBytes Picture (left .picture) w)
+outcome (StoreWithPicture address byte) w =
+    let left =
+    storeWithPicture (w .machine)
+    (w .bytes Shared) (w .bytes Screen) (w .bytes Attribute) (w .bytes Picture) address byte in
+    leaving (answered (left .answer .refusal) (left .answer .marks ∷ []))
+    (withBytes Shared (left .shared)
+    (withBytes Screen (left .screen) (withBytes Attribute (left .attribute) (withBytes Picture (left .picture) w))))
+outcome (GlyphPart code) w =
+    let part = glyphPart (w .bytes Glyphs) code in
+    leaving (answered (partRefusal part) part) w
+outcome (DrawLine row scan) w =
+    let left = drawLine (w .machine) (w .bytes Picture) (w .bytes Glyphs) row scan (w .bytes Line) in
+    leaving (answered (left .refusal) []) (withBytes Line (left .line) w)
 
--- the world after a call
+abbrev pub answer : Call → World → Answer
+answer call w = outcome call w .answer
+
 abbrev pub after : Call → World → World
-after (Read8088 address) w = w
-after (Store8088 address byte) w = left8088 w (store8088 (w .shared) (w .screen) (w .attribute) address byte)
-after (ReadZ80 address) w = w
-after (StoreZ80 address byte) w = leftZ80 w (storeZ80 (w .private) (w .shared) address byte)
-after (ReadShadow place) w = w
-after (WriteShadow place value) w = leftPort w (w .machine) (writeShadow (w .shadow) place value .shadow) (w .nvm)
-after (WritePort port code) w =
-    let left = writePort (w .machine) (w .shadow) (w .nvm) port code in
-    leftPort w (left .answer .machine) (left .shadow) (left .nvm)
-after VerticalTick w = leftPort w (verticalTick (w .machine)) (w .shadow) (w .nvm)
-after Draw w = leftDraw w (draw (w .machine) (w .screen) (w .attribute) (w .picture) .picture)
-after (StoreWithPicture address byte) w =
-    leftWithPicture w (storeWithPicture (w .machine) (w .shared) (w .screen) (w .attribute) (w .picture) address byte)
-after (DrawLine row scan) w = leftLine w (drawLine (w .machine) (w .picture) (w .glyphs) row scan (w .line) .line)
-
--- what a call answers: its number of refusal and its other number, the byte read, the bytes that the walk read or the marks, 0
--- where it has none
-abbrev pub answer : Call → World → ByteRead
-answer (Read8088 address) w = read8088 (w .shared) (w .screen) (w .attribute) address
-answer (Store8088 address byte) w = readRefused (store8088 (w .shared) (w .screen) (w .attribute) address byte .refusal)
-answer (ReadZ80 address) w = readZ80 (w .private) (w .shared) address
-answer (StoreZ80 address byte) w = readRefused (storeZ80 (w .private) (w .shared) address byte .refusal)
-answer (ReadShadow place) w = readShadow (w .shadow) place
-answer (WriteShadow place value) w = readRefused (writeShadow (w .shadow) place value .refusal)
-answer (WritePort port code) w = readRefused (writePort (w .machine) (w .shadow) (w .nvm) port code .answer .refusal)
-answer VerticalTick w = readRefused accepted
-answer Draw w =
-    let left = draw (w .machine) (w .screen) (w .attribute) (w .picture) in
-    record { refusal = left .answer .refusal; byte = left .answer .reads }
-answer (StoreWithPicture address byte) w =
-    let left = storeWithPicture (w .machine) (w .shared) (w .screen) (w .attribute) (w .picture) address byte in
-    record { refusal = left .answer .refusal; byte = left .answer .marks }
-answer (DrawLine row scan) w = readRefused (drawLine (w .machine) (w .picture) (w .glyphs) row scan (w .line) .refusal)
+after call w = outcome call w .world

@@ -1,117 +1,108 @@
--- Document 01, "Lent memory": what a Z80 store changes, and what a Z80 answer depends on.
-use Prim.Native.Nat.{ℕ, _<_}
+-- Document 01, "Lent memory": what a Z80 call leaves alone, and what a Z80 answer depends on. That a Z80 store changes
+-- one byte stands in crates/memories/specs/OneByte.antt.
+use Prim.Native.Nat.{ℕ}
 use mathlib.Core.Path.{_≡_}
 use mathlib.Core.List.{List, [], _∷_}
 use mathlib.Core.Bool.{Bool, true, false, not, cond, _&&_, _||_}
-use lib.ListN.{length, getD, take, drop}
-use lib.Dec.{eqb, ltb}
-use Rattle.lent.specs.Lengths.{sharedBytes}
-use Rattle.lent.specs.declared.ByteRead.{ByteRead}
-use Rattle.memories.specs.ViewZ80.{isPrivate, lengthsZ80, storeZ80}
-use Rattle.runs.specs.World.{World, Call, Read8088, Store8088, ReadZ80, StoreZ80, ReadShadow, WriteShadow, WritePort, VerticalTick, Draw, StoreWithPicture, DrawLine, after, answer}
+use lib.ListN.{length}
+use Rattle.runs.specs.World.{Memory, Shared, Private, World, Call, ReadZ80, StoreZ80, Answer, after, answer}
+use Rattle.runs.specs.Reach.{Part, From0800, AllOf, has, hasMemory, Same, reach, mayChange}
 
--- a memory as it was but for one place, where it holds a byte if the test holds
-abbrev pub OnlyAt : Bool → ℕ → ℕ → List ℕ → List ℕ → Type 0
-OnlyAt here address byte before new =
-    (length new ≡ length before)
-    × ((place : ℕ) → getD new place 0 ≡ cond (here && eqb place address) byte (getD before place 0))
+-- whether every part, and every memory, of a list is in another
+unfoldable pub onlyParts : (all parts : List Part) → Bool
+onlyParts all [] = true
+onlyParts all (part ∷ parts) = has all part && onlyParts all parts
 
--- "A Z80 store changes that one byte and no other." An address has sixteen bits.
-abbrev pub ChangesOneByte : Type 0
-ChangesOneByte =
-    (private shared : List ℕ) (address byte : ℕ) → lengthsZ80 (length private) (length shared) ≡ true → address < sharedBytes
-    → OnlyAt (isPrivate address) address byte private (storeZ80 private shared address byte .private)
-    × OnlyAt (not (isPrivate address)) address byte shared (storeZ80 private shared address byte .shared)
+unfoldable pub onlyMemories : (all memories : List Memory) → Bool
+onlyMemories all [] = true
+onlyMemories all (memory ∷ memories) = hasMemory all memory && onlyMemories all memories
+
+-- The owner's second demand: "The Z80 reads and writes only its own 2 KB and the 62 KB that it shares."
+abbrev pub z80Lent : List Memory
+z80Lent = Private ∷ Shared ∷ []
+
+abbrev pub z80Sees : List Part
+z80Sees = AllOf Private ∷ From0800 ∷ []
+
+abbrev pub z80Changes : List Part
+z80Changes = AllOf Private ∷ AllOf Shared ∷ From0800 ∷ []
+
+-- a Z80 call: one that is lent, sees and may change nothing else
+abbrev pub isZ80 : Call → Bool
+isZ80 call =
+    onlyMemories z80Lent (reach call .lent)
+    && (onlyParts z80Sees (reach call .sees) && onlyParts z80Changes (reach call .changes))
+
+-- the Z80's two calls are such
+abbrev pub ItsTwoCalls : Type 0
+ItsTwoCalls = (address byte : ℕ) → (isZ80 (ReadZ80 address) ≡ true) × (isZ80 (StoreZ80 address byte) ≡ true)
+
+-- it leaves every other part: the machine, the 8088's first 2 KB of shared memory, and each other memory
+abbrev pub OnlyItsOwn : Type 0
+OnlyItsOwn =
+    (call : Call) (w : World) (part : Part) → isZ80 call ≡ true → has z80Changes part ≡ false
+    → Same part (after call w) w
 
 -- "A Z80 answer depends only on the call, the buffer lengths, the private bytes and the shared bytes from 0800 up": two
 -- worlds that agree on those, whatever the rest of them holds
 pub record Agree (w v : World) : Type 0 where
-  pub private : w .private ≡ v .private
-  pub shared-length : length (w .shared) ≡ length (v .shared)
-  pub from0800 : drop 0x0800 (w .shared) ≡ drop 0x0800 (v .shared)
+  pub private : w .bytes Private ≡ v .bytes Private
+  pub shared-length : length (w .bytes Shared) ≡ length (v .bytes Shared)
+  pub from0800 : Same From0800 w v
 
-abbrev pub isZ80 : Call → Bool
-isZ80 (ReadZ80 address) = true
-isZ80 (StoreZ80 address byte) = true
-isZ80 (Read8088 address) = false
-isZ80 (Store8088 address byte) = false
-isZ80 (ReadShadow place) = false
-isZ80 (WriteShadow place value) = false
-isZ80 (WritePort port code) = false
-isZ80 VerticalTick = false
-isZ80 Draw = false
-isZ80 (StoreWithPicture address byte) = false
-isZ80 (DrawLine row scan) = false
-
--- The owner's second demand: "The Z80 reads and writes only its own 2 KB and the 62 KB that it shares." Of the world a Z80 call
--- leaves all but private memory and shared memory from 0800 up
-pub record LeavesTheRest (w v : World) : Type 0 where
-  pub machine : v .machine ≡ w .machine
-  pub below0800 : take 0x0800 (v .shared) ≡ take 0x0800 (w .shared)
-  pub screen : v .screen ≡ w .screen
-  pub attribute : v .attribute ≡ w .attribute
-  pub nvm : v .nvm ≡ w .nvm
-  pub shadow : v .shadow ≡ w .shadow
-  pub picture : v .picture ≡ w .picture
-  pub glyphs : v .glyphs ≡ w .glyphs
-  pub line : v .line ≡ w .line
-
-abbrev pub OnlyItsOwn : Type 0
-OnlyItsOwn = (call : Call) (w : World) → isZ80 call ≡ true → LeavesTheRest w (after call w)
-
--- an 8088 address at which the Z80 sees nothing
-abbrev pub outside : ℕ → Bool
-outside address = ltb address 0x0800 || ltb 0xFFFF address
-
--- a call that is no Z80 call and stores nothing at 0800 to FFFF
+-- a call after which the Z80 sees what it saw before
 abbrev pub unseenByZ80 : Call → Bool
-unseenByZ80 (Store8088 address byte) = outside address
-unseenByZ80 (StoreWithPicture address byte) = outside address
-unseenByZ80 (ReadZ80 address) = false
-unseenByZ80 (StoreZ80 address byte) = false
-unseenByZ80 (Read8088 address) = true
-unseenByZ80 (ReadShadow place) = true
-unseenByZ80 (WriteShadow place value) = true
-unseenByZ80 (WritePort port code) = true
-unseenByZ80 VerticalTick = true
-unseenByZ80 Draw = true
-unseenByZ80 (DrawLine row scan) = true
+unseenByZ80 call = not (mayChange call (AllOf Private) || mayChange call From0800)
 
--- two runs side by side: a Z80 call that both make, or a call of one of them alone that the Z80 cannot see
+-- Two runs side by side, by turns. In a turn both make one call, or one of them alone makes a call that the Z80 cannot
+-- see. For example, the left run alone stores at 00010; both store 5A at 00900, by the 8088; the right run alone draws
+-- a picture; then the Z80 reads 0900 in both. It reads 5A in both, although the 8088's first 2 KB differ.
 pub data Turn : Type 0 where
-  Both : (call : Call) → isZ80 call ≡ true → Turn
-  First : (call : Call) → unseenByZ80 call ≡ true → Turn
-  Second : (call : Call) → unseenByZ80 call ≡ true → Turn
+  Both : (call : Call) → Turn
+  LeftAlone : (call : Call) → unseenByZ80 call ≡ true → Turn
+  RightAlone : (call : Call) → unseenByZ80 call ≡ true → Turn
 
 pub data Side : Type 0 where
-  first : Side
-  second : Side
+  left : Side
+  right : Side
 
 -- a run's world after a turn
 abbrev pub turned : Side → Turn → World → World
-turned first (Both call h) w = after call w
-turned first (First call h) w = after call w
-turned first (Second call h) w = w
-turned second (Both call h) w = after call w
-turned second (First call h) w = w
-turned second (Second call h) w = after call w
+turned side (Both call) w = after call w
+turned left (LeftAlone call h) w = after call w
+turned right (LeftAlone call h) w = w
+turned left (RightAlone call h) w = w
+turned right (RightAlone call h) w = after call w
+
+abbrev pub turnedAll : Side → List Turn → World → World
+turnedAll side [] w = w
+turnedAll side (turn ∷ turns) w = turnedAll side turns (turned side turn w)
 
 -- what the Z80 is answered in a turn, before what it was answered in the later ones
-abbrev pub heard : Turn → World → List ByteRead → List ByteRead
-heard (Both call h) w later = answer call w ∷ later
-heard (First call h) w later = later
-heard (Second call h) w later = later
+abbrev pub heard : Turn → World → List Answer → List Answer
+heard (Both call) w later = cond (isZ80 call) (answer call w ∷ later) later
+heard (LeftAlone call h) w later = later
+heard (RightAlone call h) w later = later
 
-abbrev pub ended : Side → List Turn → World → World
-ended side [] w = w
-ended side (turn ∷ turns) w = ended side turns (turned side turn w)
-
-abbrev pub answers : Side → List Turn → World → List ByteRead
+abbrev pub answers : Side → List Turn → World → List Answer
 answers side [] w = []
 answers side (turn ∷ turns) w = heard turn w (answers side turns (turned side turn w))
 
--- "two runs that agree on those give the Z80 the same answers, even if the 8088's first 2 KB differ"
+-- both runs make a call that the Z80 sees and that is no call of its own: a store of the 8088 from 0800 up
+abbrev pub storesInBoth : List Turn → Bool
+storesInBoth [] = false
+storesInBoth (Both call ∷ turns) = not (isZ80 call || unseenByZ80 call) || storesInBoth turns
+storesInBoth (LeftAlone call h ∷ turns) = storesInBoth turns
+storesInBoth (RightAlone call h ∷ turns) = storesInBoth turns
+
+-- every memory is as long in the one as in the other
+abbrev pub SameLengths : World → World → Type 0
+SameLengths w v = (memory : Memory) → length (w .bytes memory) ≡ length (v .bytes memory)
+
+-- "two runs that agree on those give the Z80 the same answers, even if the 8088's first 2 KB differ". Whether a store
+-- of the 8088 is refused goes by the lengths of all that it is lent, so runs that have one in common agree on these
+-- too.
 abbrev pub SameAnswers : Type 0
 SameAnswers =
-    (turns : List Turn) (w v : World) → Agree w v
-    → (answers first turns w ≡ answers second turns v) × Agree (ended first turns w) (ended second turns v)
+    (turns : List Turn) (w v : World) → Agree w v → (storesInBoth turns ≡ true → SameLengths w v)
+    → (answers left turns w ≡ answers right turns v) × Agree (turnedAll left turns w) (turnedAll right turns v)

@@ -1,0 +1,264 @@
+-- What each call may change, that lengths stay, and what each call sees: the statements of specs/Reach.antt.
+use Prim.Native.Nat.{ℕ, _+_}
+use mathlib.Core.Path.{_≡_, refl, subst, sym, ap, _∙_}
+use mathlib.Core.List.{List, [], _∷_}
+use mathlib.Core.Bool.{Bool, true, false, not, cond, _&&_, true≢false}
+use native.Mathlib.Omega.{arith}
+use lib.ListN.{length, set, take, drop, length-set}
+use lib.Seq.{take-set-le, drop-set-lt}
+use lib.Dec.{eqb, ltb}
+use borrow.Author.Tests.{ltb-true, ltb-false, eqb-false, ne-eqb, not-false}
+use Rattle.lent.specs.Lengths.{shadowBytes, nvmBytes, pictureBytes, lineBytes}
+use Rattle.lent.specs.Refusals.{accepted, refuses, lengthRefused, placeRefused}
+use Rattle.lent.proofs.Tests.{either}
+use Rattle.machine.specs.declared.Machine.{Machine}
+use Rattle.memories.specs.View8088.{seen8088}
+use Rattle.memories.specs.ViewZ80.{sharedFrom, isPrivate}
+use Rattle.memories.specs.declared.view8088.Seen.{Seen}
+use Rattle.memories.specs.declared.view8088.Seen.the-variants.{Shared as InShared, Screen as InScreen, Attribute as InAttribute, Nowhere}
+use Rattle.shadow.specs.Shadow.{refusalShadow, WrittenShadow}
+use Rattle.diagnostic.specs.Diagnostic.{WrittenPort, rises, writeDiagnostic}
+use Rattle.ports.specs.Ports.{lengthsNvm, isPort, writePort}
+use Rattle.ports.proofs.Laws.{lentNvm}
+use Rattle.chain.proofs.Searching.{neither}
+use Rattle.picture.specs.Picture.{recordIn}
+use Rattle.picture.specs.Draw.{lengthsPicture, chainOf, refusalDrawing, DrawnPicture}
+use Rattle.picture.proofs.Laws.{lentPicture, columns-fit}
+use Rattle.picture.proofs.Sizes.{picture-sized}
+use Rattle.mending.proofs.Laws.{mended-sized}
+use Rattle.mending.proofs.Outcome.{accepts}
+use Rattle.scan_line.specs.Call.{lengthsLine, onTube, refusalLine, DrawnLine}
+use Rattle.scan_line.proofs.Laws.{lentLine}
+use Rattle.scan_line.proofs.Line.{line-sized}
+use Rattle.runs.specs.World.{Memory, Shared, Private, Screen, Attribute, Glyphs, Nvm, Shadow, Picture, Line, numberOf, isMemory, World, withMachine, withBytes, Read8088, Store8088, ReadZ80, StoreZ80, ReadShadow, WriteShadow, WritePort, VerticalTick, Draw, StoreWithPicture, GlyphPart, DrawLine, after}
+use Rattle.runs.specs.Reach.{Part, TheMachine, Below0800, From0800, AllOf, numberOfPart, has, Same, storedAt, ChangesOnly, LengthsStay}
+use Rattle.runs.proofs.Worlds.{with-length, storedIn, stored-length, refused8088, store-refused, store-accepted, refusedZ80, z80-refused, z80-private, z80-shared, not-below, mendedIn, refusedWithPicture, picture-refused, picture-accepted}
+
+pub same-refl : (part : Part) (w : World) → Same part w w
+same-refl TheMachine w = refl
+same-refl Below0800 w = refl
+same-refl From0800 w = refl
+same-refl (AllOf memory) w = refl
+
+-- worlds that are the same are the same in every part
+pub same-by : (part : Part) (u u′ v v′ : World) → u ≡ u′ → v ≡ v′ → Same part u′ v′ → Same part u v
+same-by part u u′ v v′ e f h =
+    subst (λ (x : World). Same part x v) (sym e) (subst (λ (x : World). Same part u′ x) (sym f) h)
+
+pub same-trans : (part : Part) (u w v : World) → Same part u w → Same part w v → Same part u v
+same-trans TheMachine u w v p q = p ∙ q
+same-trans Below0800 u w v p q = p ∙ q
+same-trans From0800 u w v p q = p ∙ q
+same-trans (AllOf memory) u w v p q = p ∙ q
+
+-- a part that is not in a list is not its first, and not in the rest
+apart :
+    (one : Part) (parts : List Part) (part : Part) → has (one ∷ parts) part ≡ false
+    → (eqb (numberOfPart part) (numberOfPart one) ≡ false) × (has parts part ≡ false)
+unfolding has
+apart one parts part h = neither (eqb (numberOfPart part) (numberOfPart one)) (has parts part) h
+
+other-memory :
+    (memory one : Memory) → eqb (numberOfPart (AllOf one)) (numberOfPart (AllOf memory)) ≡ false → isMemory one memory ≡ false
+other-memory memory one h =
+    ne-eqb (numberOf one) (numberOf memory)
+    (λ e. eqb-false (3 + numberOf one) (3 + numberOf memory) h (ap (λ (n : ℕ). 3 + n) e))
+
+-- other bytes in a memory that is not shared memory leave every part but that memory
+with-leaves :
+    (memory : Memory) (new : List ℕ) (w : World) → isMemory Shared memory ≡ false
+    → (part : Part) → eqb (numberOfPart part) (numberOfPart (AllOf memory)) ≡ false → Same part (withBytes memory new w) w
+with-leaves memory new w other TheMachine h = refl
+with-leaves memory new w other Below0800 h = rw other
+with-leaves memory new w other From0800 h = rw other
+with-leaves memory new w other (AllOf one) h = rw (other-memory memory one h)
+
+-- a byte stored in shared memory leaves the other half of it
+module _ (w : World) (place byte : ℕ) where
+  abbrev half : Part
+  half = cond (ltb place sharedFrom) Below0800 From0800
+
+  shared-leaves :
+      (part : Part) → has (AllOf Shared ∷ half ∷ []) part ≡ false → Same part (withBytes Shared (set (w .bytes Shared) place byte) w) w
+  shared-leaves TheMachine h = refl
+  shared-leaves Below0800 h = go (ltb place sharedFrom) refl (apart half [] _ (apart (AllOf Shared) (half ∷ []) _ h .1) .0)
+    where
+      go :
+          (b : Bool) → ltb place sharedFrom ≡ b → eqb (numberOfPart Below0800) (numberOfPart (cond b Below0800 From0800)) ≡ false
+          → take sharedFrom (set (w .bytes Shared) place byte) ≡ take sharedFrom (w .bytes Shared)
+      go true e g = absurd (true≢false g)
+      go false e g = take-set-le sharedFrom (w .bytes Shared) place byte (ltb-false place sharedFrom e)
+  shared-leaves From0800 h = go (ltb place sharedFrom) refl (apart half [] _ (apart (AllOf Shared) (half ∷ []) _ h .1) .0)
+    where
+      go :
+          (b : Bool) → ltb place sharedFrom ≡ b → eqb (numberOfPart From0800) (numberOfPart (cond b Below0800 From0800)) ≡ false
+          → drop sharedFrom (set (w .bytes Shared) place byte) ≡ drop sharedFrom (w .bytes Shared)
+      go true e g = drop-set-lt sharedFrom (w .bytes Shared) place byte (ltb-true place sharedFrom e)
+      go false e g = absurd (true≢false g)
+  shared-leaves (AllOf one) h = rw (other-memory Shared one (apart (AllOf Shared) (half ∷ []) (AllOf one) h .0))
+
+-- a write to a port leaves shadow and NVM as long as they were
+port-sized :
+    (w : World) (port code : ℕ)
+    → let left = writePort (w .machine) (w .bytes Shadow) (w .bytes Nvm) port code in
+    (length (left .shadow) ≡ length (w .bytes Shadow)) × (length (left .nvm) ≡ length (w .bytes Nvm))
+port-sized w port code =
+    either Sized (not (lengthsNvm (length (w .bytes Shadow)) (length (w .bytes Nvm)))) _ _ (λ _. (refl, refl))
+    (λ right. either Sized (not (isPort port)) _ _ (λ _. (refl, refl))
+    (λ _. either Sized (eqb port 0x04) _ _ (λ _. (refl, refl))
+    (λ _. either Sized (eqb port 0x0A) _ _ (λ _. copies (lentNvm (not-false _ right)))
+    (λ _. either Sized (eqb port 0x0C) _ _ (λ _. (refl, refl)) (λ _. (refl, refl))))))
+  where
+    Sized : WrittenPort → Type 0
+    Sized left = (length (left .shadow) ≡ length (w .bytes Shadow)) × (length (left .nvm) ≡ length (w .bytes Nvm))
+
+    one-of : (b : Bool) (l k : List ℕ) → length l ≡ length k → length (cond b l k) ≡ length k
+    one-of true l k e = e
+    one-of false l k e = refl
+
+    copies :
+        (length (w .bytes Shadow) ≡ shadowBytes) × (length (w .bytes Nvm) ≡ nvmBytes)
+        → Sized (writeDiagnostic (w .machine) (w .bytes Shadow) (w .bytes Nvm) code)
+    copies lent =
+        either Sized (rises 6 (w .machine .held) code && rises 7 (w .machine .held) code) _ _ (λ _. (refl, refl))
+        (λ _. (
+          one-of (rises 7 (w .machine .held) code) (w .bytes Nvm) (w .bytes Shadow) (omega (arith, lent)),
+          one-of (rises 6 (w .machine .held) code) (w .bytes Shadow) (w .bytes Nvm) (omega (arith, lent)),
+        ))
+
+-- a drawing, and a line, that is accepted has room of the right length
+accepted-picture :
+    (w : World) → refuses (refusalDrawing (w .bytes Screen) (w .bytes Attribute) (w .bytes Picture)) ≡ false
+    → length (w .bytes Picture) ≡ pictureBytes
+accepted-picture w = go (lengthsPicture (length (w .bytes Screen)) (length (w .bytes Attribute)) (length (w .bytes Picture))) refl
+  where
+    go :
+        (right : Bool) → lengthsPicture (length (w .bytes Screen)) (length (w .bytes Attribute)) (length (w .bytes Picture)) ≡ right
+        → refuses (cond (not right) lengthRefused accepted) ≡ false → length (w .bytes Picture) ≡ pictureBytes
+    go true e h = lentPicture e .1 .1
+    go false e h = absurd (true≢false h)
+
+accepted-line :
+    (w : World) (row scan : ℕ) → refuses (refusalLine (w .bytes Picture) (w .bytes Glyphs) row scan (w .bytes Line)) ≡ false
+    → length (w .bytes Line) ≡ lineBytes
+accepted-line w row scan = go (lengthsLine (length (w .bytes Picture)) (length (w .bytes Glyphs)) (length (w .bytes Line))) refl
+  where
+    go :
+        (right : Bool) → lengthsLine (length (w .bytes Picture)) (length (w .bytes Glyphs)) (length (w .bytes Line)) ≡ right
+        → refuses (cond (not right) lengthRefused (cond (not (onTube row scan)) placeRefused accepted)) ≡ false
+        → length (w .bytes Line) ≡ lineBytes
+    go true e h = lentLine e .1 .1
+    go false e h = absurd (true≢false h)
+
+stored-leaves :
+    (seen : Seen) (byte : ℕ) (w : World) (part : Part) → has (storedAt seen) part ≡ false → Same part (storedIn seen byte w) w
+stored-leaves (InShared place) byte w part h = shared-leaves w place byte part h
+stored-leaves (InScreen place) byte w part h = with-leaves Screen _ w refl part (apart (AllOf Screen) [] part h .0)
+stored-leaves (InAttribute place) byte w part h = with-leaves Attribute _ w refl part (apart (AllOf Attribute) [] part h .0)
+stored-leaves Nowhere byte w part h = same-refl part w
+
+machine-leaves :
+    (m : Machine) (w : World) (part : Part) → eqb (numberOfPart part) (numberOfPart TheMachine) ≡ false
+    → Same part (withMachine m w) w
+machine-leaves m w TheMachine h = absurd (true≢false h)
+machine-leaves m w Below0800 h = refl
+machine-leaves m w From0800 h = refl
+machine-leaves m w (AllOf memory) h = refl
+
+pub changes-only : ChangesOnly
+changes-only (Read8088 a) w part h = same-refl part w
+changes-only (Store8088 a b) w part h = go (refused8088 a w) refl
+  where
+    go : (r : Bool) → refused8088 a w ≡ r → Same part (after (Store8088 a b) w) w
+    go true e = same-by part _ w w w (store-refused a b w e) refl (same-refl part w)
+    go false e = same-by part _ _ w w (store-accepted a b w e) refl (stored-leaves (seen8088 a) b w part h)
+changes-only (ReadZ80 a) w part h = same-refl part w
+changes-only (StoreZ80 a b) w part h = go (refusedZ80 w) (isPrivate a) refl refl
+  where
+    go : (r p : Bool) → refusedZ80 w ≡ r → isPrivate a ≡ p → Same part (after (StoreZ80 a b) w) w
+    go true p e k = same-by part _ w w w (z80-refused a b w e) refl (same-refl part w)
+    go false true e k =
+        same-by part _ _ w w (z80-private a b w e k) refl (with-leaves Private _ w refl part (apart (AllOf Private) _ part h .0))
+    go false false e k =
+        let from = apart (AllOf Private) _ part h .1 in
+        same-by part _ _ w w (z80-shared a b w e k) refl (shared-leaves w a b part (rw (not-below a k) from))
+changes-only (ReadShadow p) w part h = same-refl part w
+changes-only (WriteShadow p b) w part h = with-leaves Shadow _ w refl part (apart (AllOf Shadow) [] part h .0)
+changes-only (WritePort p k) w part h =
+    let left = writePort (w .machine) (w .bytes Shadow) (w .bytes Nvm) p k in
+    let aside = apart TheMachine (AllOf Shadow ∷ AllOf Nvm ∷ []) part h in
+    let later = apart (AllOf Shadow) (AllOf Nvm ∷ []) part (aside .1) in
+    let saved = withBytes Nvm (left .nvm) w in
+    let recalled = withBytes Shadow (left .shadow) saved in
+    same-trans part (after (WritePort p k) w) recalled w (machine-leaves (left .answer .machine) recalled part (aside .0))
+    (same-trans part recalled saved w (with-leaves Shadow (left .shadow) saved refl part (later .0))
+    (with-leaves Nvm (left .nvm) w refl part (apart (AllOf Nvm) [] part (later .1) .0)))
+changes-only VerticalTick w part h = machine-leaves _ w part (apart TheMachine [] part h .0)
+changes-only Draw w part h = with-leaves Picture _ w refl part (apart (AllOf Picture) [] part h .0)
+changes-only (StoreWithPicture a b) w part h = go (refusedWithPicture a w) refl
+  where
+    drawn : World
+    drawn = withBytes Picture (mendedIn a b w) w
+
+    go : (r : Bool) → refusedWithPicture a w ≡ r → Same part (after (StoreWithPicture a b) w) w
+    go true e = same-by part _ w w w (picture-refused a b w e) refl (same-refl part w)
+    go false e =
+        let aside = apart (AllOf Picture) (storedAt (seen8088 a)) part h in
+        same-by part _ (storedIn (seen8088 a) b drawn) w w (picture-accepted a b w e) refl
+        (same-trans part (storedIn (seen8088 a) b drawn) drawn w (stored-leaves (seen8088 a) b drawn part (aside .1))
+        (with-leaves Picture _ w refl part (aside .0)))
+changes-only (GlyphPart k) w part h = same-refl part w
+changes-only (DrawLine r s) w part h = with-leaves Line _ w refl part (apart (AllOf Line) [] part h .0)
+
+pub lengths-stay : LengthsStay
+lengths-stay (Read8088 a) w one = refl
+lengths-stay (Store8088 a b) w one = go (refused8088 a w) refl
+  where
+    go : (r : Bool) → refused8088 a w ≡ r → length (after (Store8088 a b) w .bytes one) ≡ length (w .bytes one)
+    go true e = ap (λ (u : World). length (u .bytes one)) (store-refused a b w e)
+    go false e = ap (λ (u : World). length (u .bytes one)) (store-accepted a b w e) ∙ stored-length (seen8088 a) b w one
+lengths-stay (ReadZ80 a) w one = refl
+lengths-stay (StoreZ80 a b) w one = go (refusedZ80 w) (isPrivate a) refl refl
+  where
+    go : (r p : Bool) → refusedZ80 w ≡ r → isPrivate a ≡ p → length (after (StoreZ80 a b) w .bytes one) ≡ length (w .bytes one)
+    go true p e k = ap (λ (u : World). length (u .bytes one)) (z80-refused a b w e)
+    go false true e k =
+        ap (λ (u : World). length (u .bytes one)) (z80-private a b w e k)
+        ∙ with-length Private _ w (length-set (w .bytes Private) a b) one
+    go false false e k =
+        ap (λ (u : World). length (u .bytes one)) (z80-shared a b w e k)
+        ∙ with-length Shared _ w (length-set (w .bytes Shared) a b) one
+lengths-stay (ReadShadow p) w one = refl
+lengths-stay (WriteShadow p b) w one =
+    with-length Shadow _ w
+    (either (λ (left : WrittenShadow). length (left .shadow) ≡ length (w .bytes Shadow)) (refuses (refusalShadow (w .bytes Shadow) p)) _ _
+    (λ _. refl) (λ _. length-set (w .bytes Shadow) p _))
+    one
+lengths-stay (WritePort p k) w one =
+    let left = writePort (w .machine) (w .bytes Shadow) (w .bytes Nvm) p k in
+    let sized = port-sized w p k in
+    with-length Shadow (left .shadow) (withBytes Nvm (left .nvm) w) (sized .0) one ∙ with-length Nvm (left .nvm) w (sized .1) one
+lengths-stay VerticalTick w one = refl
+lengths-stay Draw w one =
+    with-length Picture _ w
+    (either (λ (left : DrawnPicture). length (left .picture) ≡ length (w .bytes Picture))
+    (refuses (refusalDrawing (w .bytes Screen) (w .bytes Attribute) (w .bytes Picture))) _ _ (λ _. refl)
+    (λ e. picture-sized (chainOf (w .machine) (w .bytes Screen) (w .bytes Attribute)) (columns-fit (w .machine))
+    ∙ sym (accepted-picture w e)))
+    one
+lengths-stay (StoreWithPicture a b) w one = go (refusedWithPicture a w) refl
+  where
+    go : (r : Bool) → refusedWithPicture a w ≡ r → length (after (StoreWithPicture a b) w .bytes one) ≡ length (w .bytes one)
+    go true e = ap (λ (u : World). length (u .bytes one)) (picture-refused a b w e)
+    go false e =
+        let long = accepts (w .machine) (w .bytes Shared) (w .bytes Screen) (w .bytes Attribute) (w .bytes Picture) a b e .0 in
+        ap (λ (u : World). length (u .bytes one)) (picture-accepted a b w e)
+        ∙ stored-length (seen8088 a) b (withBytes Picture (mendedIn a b w) w) one
+        ∙ with-length Picture (mendedIn a b w) w (mended-sized _ _ (w .bytes Picture) (columns-fit (w .machine)) long ∙ sym long) one
+lengths-stay (GlyphPart k) w one = refl
+lengths-stay (DrawLine r s) w one =
+    with-length Line _ w
+    (either (λ (left : DrawnLine). length (left .line) ≡ length (w .bytes Line))
+    (refuses (refusalLine (w .bytes Picture) (w .bytes Glyphs) r s (w .bytes Line))) _ _ (λ _. refl)
+    (λ e. line-sized (w .machine) (w .bytes Glyphs) (recordIn (w .bytes Picture) r) s .1 ∙ sym (accepted-line w r s e)))
+    one

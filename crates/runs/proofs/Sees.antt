@@ -1,0 +1,305 @@
+-- What each call sees: the statement of specs/Reach.antt that a call goes by nothing else.
+use Prim.Native.Nat.{ℕ, zero, suc, _+_, _-_, _≤_}
+use mathlib.Core.Path.{_≡_, refl, subst, sym, ap, _∙_}
+use mathlib.Core.List.{List, [], _∷_}
+use mathlib.Core.Bool.{Bool, true, false, cond}
+use native.Mathlib.Omega.{arith}
+use lib.ListN.{length, set, take, drop, getD}
+use lib.Seq.{getD-drop, drop-set-add, drop-set-lt}
+use lib.Dec.{ltb}
+use borrow.Author.Tests.{ltb-true, ltb-false}
+use Rattle.lent.specs.Refusals.{accepted, refuses}
+use Rattle.lent.proofs.Tests.{either}
+use Rattle.machine.specs.Power.{verticalTick}
+use Rattle.machine.specs.declared.Machine.{Machine}
+use Rattle.memories.specs.View8088.{seen8088, refusal8088, storeSeen}
+use Rattle.memories.specs.ViewZ80.{sharedFrom, isPrivate, seenZ80, refusalZ80, StoredZ80, storeZ80}
+use Rattle.memories.specs.declared.view8088.Seen.{Seen}
+use Rattle.memories.specs.declared.view8088.Seen.the-variants.{Shared as InShared, Screen as InScreen, Attribute as InAttribute, Nowhere}
+use Rattle.memories.proofs.Laws.{is-accepted, store-refusal}
+use Rattle.shadow.specs.Shadow.{refusalShadow, WrittenShadow, writeShadow}
+use Rattle.diagnostic.specs.Diagnostic.{WrittenPort}
+use Rattle.ports.specs.Ports.{writePort}
+use Rattle.picture.specs.Draw.{refusalDrawing, refuseDrawing, DrawnPicture, draw}
+use Rattle.picture.specs.declared.Drawn.{Drawn}
+use Rattle.mending.specs.Mending.{marksOf}
+use Rattle.mending.proofs.Outcome.{accepts}
+use Rattle.scan_line.specs.Call.{refusalLine, DrawnLine, drawLine}
+use Rattle.runs.specs.World.{Memory, Shared, Private, Screen, Attribute, Glyphs, Nvm, Shadow, Picture, Line, isMemory, World, withMachine, withBytes, answered, Read8088, Store8088, ReadZ80, StoreZ80, ReadShadow, WriteShadow, WritePort, VerticalTick, Draw, StoreWithPicture, GlyphPart, DrawLine, after, answer}
+use Rattle.runs.specs.Reach.{Part, TheMachine, Below0800, From0800, AllOf, has, hasMemory, Same, Alike, SeesOnly}
+use Rattle.runs.proofs.Worlds.{is-memory, storedIn, refused8088, store-refused, store-accepted, refusedZ80, z80-refused, z80-private, z80-shared, not-below, mendedIn, refusedWithPicture, picture-refused, picture-accepted}
+use Rattle.runs.proofs.Reach.{same-by}
+
+-- the first bytes after a store are those with the byte stored in them
+take-set : (n : ℕ) (l : List ℕ) (i b : ℕ) → take n (set l i b) ≡ set (take n l) i b
+take-set zero l i b = refl
+take-set (suc n) [] i b = refl
+take-set (suc n) (x ∷ l) zero b = refl
+take-set (suc n) (x ∷ l) (suc i) b = ap (λ (k : List ℕ). x ∷ k) (take-set n l i b)
+
+-- what lies from 0800 up stays the same where both hold another byte at a place
+set-from :
+    (l k : List ℕ) (place byte : ℕ) → drop sharedFrom l ≡ drop sharedFrom k
+    → drop sharedFrom (set l place byte) ≡ drop sharedFrom (set k place byte)
+set-from l k place byte e = go (ltb place sharedFrom) refl
+  where
+    go : (b : Bool) → ltb place sharedFrom ≡ b → drop sharedFrom (set l place byte) ≡ drop sharedFrom (set k place byte)
+    go true h =
+        let under = ltb-true place sharedFrom h in
+        drop-set-lt sharedFrom l place byte under ∙ e ∙ sym (drop-set-lt sharedFrom k place byte under)
+    go false h =
+        let over = ltb-false place sharedFrom h in
+        let at : place ≡ sharedFrom + (place - sharedFrom) = omega arith in
+        rw at
+        (drop-set-add sharedFrom l (place - sharedFrom) byte ∙ ap (λ (m : List ℕ). set m (place - sharedFrom) byte) e
+        ∙ sym (drop-set-add sharedFrom k (place - sharedFrom) byte))
+
+-- and is the same byte at each such address, so both show the Z80 the same byte
+seen-same :
+    (private l k : List ℕ) (a : ℕ) → drop sharedFrom l ≡ drop sharedFrom k → seenZ80 private l a ≡ seenZ80 private k a
+unfolding seenZ80
+seen-same private l k a e = go (isPrivate a) refl
+  where
+    go : (b : Bool) → isPrivate a ≡ b → cond b (getD private a 0) (getD l a 0) ≡ cond b (getD private a 0) (getD k a 0)
+    go true h = refl
+    go false h =
+        let over = ltb-false a sharedFrom (not-below a h) in
+        let at : a ≡ sharedFrom + (a - sharedFrom) = omega arith in
+        rw at
+        (sym (getD-drop sharedFrom l (a - sharedFrom) 0) ∙ ap (λ (m : List ℕ). getD m (a - sharedFrom) 0) e
+        ∙ getD-drop sharedFrom k (a - sharedFrom) 0)
+
+-- two worlds in which one memory gets other bytes, the same if it was the same
+module _ (memory : Memory) (x y : List ℕ) (w v : World) (new : Same (AllOf memory) w v → x ≡ y) where
+  whole-alike : (one : Memory) → Same (AllOf one) w v → Same (AllOf one) (withBytes memory x w) (withBytes memory y v)
+  whole-alike one s = go (isMemory one memory) refl
+    where
+      go : (b : Bool) → isMemory one memory ≡ b → cond b x (w .bytes one) ≡ cond b y (v .bytes one)
+      go true h = new (subst (λ (m : Memory). w .bytes m ≡ v .bytes m) (is-memory one memory h) s)
+      go false h = s
+
+  with-alike :
+      isMemory Shared memory ≡ false → (part : Part) → Same part w v → Same part (withBytes memory x w) (withBytes memory y v)
+  with-alike other TheMachine s = s
+  with-alike other Below0800 s = rw other s
+  with-alike other From0800 s = rw other s
+  with-alike other (AllOf one) s = whole-alike one s
+
+shared-alike :
+    (place byte : ℕ) (w v : World) (part : Part) → Same part w v
+    → Same part (withBytes Shared (set (w .bytes Shared) place byte) w) (withBytes Shared (set (v .bytes Shared) place byte) v)
+shared-alike place byte w v TheMachine s = s
+shared-alike place byte w v Below0800 s =
+    take-set sharedFrom (w .bytes Shared) place byte ∙ ap (λ (l : List ℕ). set l place byte) s
+    ∙ sym (take-set sharedFrom (v .bytes Shared) place byte)
+shared-alike place byte w v From0800 s = set-from (w .bytes Shared) (v .bytes Shared) place byte s
+shared-alike place byte w v (AllOf one) s =
+    whole-alike Shared _ _ w v (λ e. ap (λ (l : List ℕ). set l place byte) e) one s
+
+pub stored-alike :
+    (seen : Seen) (byte : ℕ) (w v : World) (part : Part) → Same part w v → Same part (storedIn seen byte w) (storedIn seen byte v)
+stored-alike (InShared place) byte w v part s = shared-alike place byte w v part s
+stored-alike (InScreen place) byte w v part s =
+    with-alike Screen _ _ w v (λ e. ap (λ (l : List ℕ). set l place byte) e) refl part s
+stored-alike (InAttribute place) byte w v part s =
+    with-alike Attribute _ _ w v (λ e. ap (λ (l : List ℕ). set l place byte) e) refl part s
+stored-alike Nowhere byte w v part s = s
+
+-- what an 8088 store does to a part goes by the lengths that it is lent and by that part
+pub stores-alike :
+    (a b : ℕ) (w v : World) → refusal8088 (w .bytes Shared) (w .bytes Screen) (w .bytes Attribute) a ≡ refusal8088 (v .bytes Shared) (v .bytes Screen) (v .bytes Attribute) a
+    → (part : Part) → Same part w v → Same part (after (Store8088 a b) w) (after (Store8088 a b) v)
+stores-alike a b w v e part s = go (refused8088 a w) refl
+  where
+    go : (r : Bool) → refused8088 a w ≡ r → Same part (after (Store8088 a b) w) (after (Store8088 a b) v)
+    go true h = same-by part _ w _ v (store-refused a b w h) (store-refused a b v (sym (ap refuses e) ∙ h)) s
+    go false h =
+        same-by part _ (storedIn (seen8088 a) b w) _ (storedIn (seen8088 a) b v) (store-accepted a b w h)
+        (store-accepted a b v (sym (ap refuses e) ∙ h)) (stored-alike (seen8088 a) b w v part s)
+
+z80-alike :
+    (a b : ℕ) (w v : World) → refusalZ80 (w .bytes Private) (w .bytes Shared) ≡ refusalZ80 (v .bytes Private) (v .bytes Shared)
+    → (part : Part) → Same part w v → Same part (after (StoreZ80 a b) w) (after (StoreZ80 a b) v)
+z80-alike a b w v e part s = go (refusedZ80 w) (isPrivate a) refl refl
+  where
+    go : (r p : Bool) → refusedZ80 w ≡ r → isPrivate a ≡ p → Same part (after (StoreZ80 a b) w) (after (StoreZ80 a b) v)
+    go true p h k = same-by part _ w _ v (z80-refused a b w h) (z80-refused a b v (sym (ap refuses e) ∙ h)) s
+    go false true h k =
+        same-by part _ _ _ _ (z80-private a b w h k) (z80-private a b v (sym (ap refuses e) ∙ h) k)
+        (with-alike Private _ _ w v (λ f. ap (λ (l : List ℕ). set l a b) f) refl part s)
+    go false false h k =
+        same-by part _ _ _ _ (z80-shared a b w h k) (z80-shared a b v (sym (ap refuses e) ∙ h) k) (shared-alike a b w v part s)
+
+machine-alike :
+    (m n : Machine) (w v : World) → (Same TheMachine w v → m ≡ n) → (part : Part) → Same part w v
+    → Same part (withMachine m w) (withMachine n v)
+machine-alike m n w v new TheMachine s = new s
+machine-alike m n w v new Below0800 s = s
+machine-alike m n w v new From0800 s = s
+machine-alike m n w v new (AllOf memory) s = s
+
+-- the number that a call answers is that of its refusal
+told :
+    {O : Type 0} (number : O → ℕ) (refusal : ℕ) (x y : O) → number x ≡ refusal → number y ≡ accepted
+    → number (cond (refuses refusal) x y) ≡ refusal
+told number refusal x y p q =
+    either (λ o. number o ≡ refusal) (refuses refusal) x y (λ _. p) (λ h. q ∙ sym (is-accepted refusal h))
+
+z80-told : (a b : ℕ) (private shared : List ℕ) → storeZ80 private shared a b .refusal ≡ refusalZ80 private shared
+z80-told a b private shared =
+    told (λ (left : StoredZ80). left .refusal) (refusalZ80 private shared) _ _ refl
+    (either (λ (left : StoredZ80). left .refusal ≡ accepted) (isPrivate a) _ _ (λ _. refl) (λ _. refl))
+
+shadow-told : (p b : ℕ) (shadow : List ℕ) → writeShadow shadow p b .refusal ≡ refusalShadow shadow p
+shadow-told p b shadow = told (λ (left : WrittenShadow). left .refusal) (refusalShadow shadow p) _ _ refl refl
+
+line-told :
+    (m : Machine) (picture table : List ℕ) (r s : ℕ) (line : List ℕ)
+    → drawLine m picture table r s line .refusal ≡ refusalLine picture table r s line
+line-told m picture table r s line =
+    told (λ (left : DrawnLine). left .refusal) (refusalLine picture table r s line) _ _ refl refl
+
+-- a drawing answers the same, whatever the picture holds
+drawing-alike :
+    (m : Machine) (screen attribute p q : List ℕ) → length p ≡ length q
+    → draw m screen attribute p .answer ≡ draw m screen attribute q .answer
+drawing-alike m screen attribute p q e =
+    rw e (go (refuses (refusalDrawing screen attribute q)) (refusalDrawing screen attribute q) _)
+  where
+    go :
+        (b : Bool) (refusal : ℕ) (other : DrawnPicture)
+        → cond b (refuseDrawing refusal p) other .answer ≡ cond b (refuseDrawing refusal q) other .answer
+    go true refusal other = refl
+    go false refusal other = refl
+
+-- what a store leaves of screen and attribute memory goes by nothing in shared memory
+aside-alike :
+    (seen : Seen) (shared other screen attribute : List ℕ) (byte : ℕ)
+    → let left = storeSeen seen shared screen attribute byte in
+    let right = storeSeen seen other screen attribute byte in
+    (left .screen ≡ right .screen) × (left .attribute ≡ right .attribute)
+aside-alike (InShared place) shared other screen attribute byte = (refl, refl)
+aside-alike (InScreen place) shared other screen attribute byte = (refl, refl)
+aside-alike (InAttribute place) shared other screen attribute byte = (refl, refl)
+aside-alike Nowhere shared other screen attribute byte = (refl, refl)
+
+module _ (a b : ℕ) (w v : World) (c : Alike (StoreWithPicture a b) w v) where
+  same-machine : w .machine ≡ v .machine
+  unfolding has
+  same-machine = c .seen TheMachine refl
+
+  same-screen : w .bytes Screen ≡ v .bytes Screen
+  unfolding has
+  same-screen = c .seen (AllOf Screen) refl
+
+  same-attribute : w .bytes Attribute ≡ v .bytes Attribute
+  unfolding has
+  same-attribute = c .seen (AllOf Attribute) refl
+
+  same-picture : w .bytes Picture ≡ v .bytes Picture
+  unfolding has
+  same-picture = c .seen (AllOf Picture) refl
+
+  same-refusal : refusedWithPicture a w ≡ refusedWithPicture a v
+  unfolding hasMemory
+  same-refusal = rw (c .lengths Shared refl, same-screen, same-attribute, same-picture)
+
+  mended-alike : mendedIn a b w ≡ mendedIn a b v
+  mended-alike =
+      let aside = aside-alike (seen8088 a) (w .bytes Shared) (v .bytes Shared) (v .bytes Screen) (v .bytes Attribute) b in
+      rw (same-machine, same-screen, same-attribute, same-picture, aside .0, aside .1)
+
+  picture-answers : (r : Bool) → refusedWithPicture a w ≡ r → answer (StoreWithPicture a b) w ≡ answer (StoreWithPicture a b) v
+  unfolding hasMemory
+  picture-answers true e =
+      rw (e, sym same-refusal ∙ e) (rw (c .lengths Shared refl, same-screen, same-attribute, same-picture))
+  picture-answers false e =
+      let f = sym same-refusal ∙ e in
+      let goes = accepts (w .machine) (w .bytes Shared) (w .bytes Screen) (w .bytes Attribute) (w .bytes Picture) a b e .1 in
+      let goes′ = accepts (v .machine) (v .bytes Shared) (v .bytes Screen) (v .bytes Attribute) (v .bytes Picture) a b f .1 in
+      rw (e, f, goes, goes′)
+      (ap (λ (l : List ℕ). answered accepted (marksOf (w .bytes Picture) l ∷ [])) mended-alike
+      ∙ ap (λ (l : List ℕ). answered accepted (marksOf l (mendedIn a b v) ∷ [])) same-picture)
+
+  picture-alike :
+      (r : Bool) → refusedWithPicture a w ≡ r → (part : Part) → Same part w v
+      → Same part (after (StoreWithPicture a b) w) (after (StoreWithPicture a b) v)
+  picture-alike true e part s =
+      same-by part _ w _ v (picture-refused a b w e) (picture-refused a b v (sym same-refusal ∙ e)) s
+  picture-alike false e part s =
+      let drawn = withBytes Picture (mendedIn a b w) w in
+      let drawn′ = withBytes Picture (mendedIn a b v) v in
+      same-by part _ (storedIn (seen8088 a) b drawn) _ (storedIn (seen8088 a) b drawn′) (picture-accepted a b w e)
+      (picture-accepted a b v (sym same-refusal ∙ e))
+      (stored-alike (seen8088 a) b drawn drawn′ part
+      (with-alike Picture (mendedIn a b w) (mendedIn a b v) w v (λ _. mended-alike) refl part s))
+
+pub sees-only : SeesOnly
+unfolding has hasMemory
+sees-only (Read8088 a) w v c =
+    (rw (c .seen (AllOf Shared) refl, c .seen (AllOf Screen) refl, c .seen (AllOf Attribute) refl), λ part s. s)
+sees-only (Store8088 a b) w v c =
+    let same : refusal8088 (w .bytes Shared) (w .bytes Screen) (w .bytes Attribute) a
+    ≡ refusal8088 (v .bytes Shared) (v .bytes Screen) (v .bytes Attribute) a =
+    rw (c .lengths Shared refl, c .lengths Screen refl, c .lengths Attribute refl) in (
+      ap (λ (n : ℕ). answered n [])
+          (store-refusal (w .bytes Shared) (w .bytes Screen) (w .bytes Attribute) a b ∙ same
+          ∙ sym (store-refusal (v .bytes Shared) (v .bytes Screen) (v .bytes Attribute) a b)),
+      stores-alike a b w v same,
+    )
+sees-only (ReadZ80 a) w v c = (
+  rw (
+    c .seen (AllOf Private) refl,
+    c .lengths Shared refl,
+    seen-same (v .bytes Private) (w .bytes Shared) (v .bytes Shared) a (c .seen From0800 refl),
+  ),
+  λ part s. s,
+)
+sees-only (StoreZ80 a b) w v c =
+    let same : refusalZ80 (w .bytes Private) (w .bytes Shared) ≡ refusalZ80 (v .bytes Private) (v .bytes Shared) =
+    rw (c .lengths Private refl, c .lengths Shared refl) in (
+      ap (λ (n : ℕ). answered n [])
+          (z80-told a b (w .bytes Private) (w .bytes Shared) ∙ same ∙ sym (z80-told a b (v .bytes Private) (v .bytes Shared))),
+      z80-alike a b w v same,
+    )
+sees-only (ReadShadow p) w v c = (rw (c .seen (AllOf Shadow) refl), λ part s. s)
+sees-only (WriteShadow p b) w v c =
+    let same : refusalShadow (w .bytes Shadow) p ≡ refusalShadow (v .bytes Shadow) p = rw (c .lengths Shadow refl) in (
+      ap (λ (n : ℕ). answered n []) (shadow-told p b (w .bytes Shadow) ∙ same ∙ sym (shadow-told p b (v .bytes Shadow))),
+      with-alike Shadow _ _ w v (λ e. ap (λ (l : List ℕ). writeShadow l p b .shadow) e) refl,
+    )
+sees-only (WritePort p k) w v c =
+    let left = writePort (w .machine) (w .bytes Shadow) (w .bytes Nvm) p k in
+    let right = writePort (v .machine) (v .bytes Shadow) (v .bytes Nvm) p k in
+    let same : left ≡ right = rw (c .seen TheMachine refl, c .seen (AllOf Shadow) refl, c .seen (AllOf Nvm) refl) in
+    let saved = withBytes Nvm (left .nvm) w in
+    let saved′ = withBytes Nvm (right .nvm) v in (
+      ap (λ (l : WrittenPort). answered (l .answer .refusal) []) same,
+      λ part s. machine-alike _ _ _ _ (λ _. ap (λ (l : WrittenPort). l .answer .machine) same) part
+          (with-alike Shadow _ _ saved saved′ (λ _. ap (λ (l : WrittenPort). l .shadow) same) refl part
+          (with-alike Nvm _ _ w v (λ _. ap (λ (l : WrittenPort). l .nvm) same) refl part s)),
+    )
+sees-only VerticalTick w v c = (refl, machine-alike _ _ w v (λ e. ap verticalTick e))
+sees-only Draw w v c =
+    let m = c .seen TheMachine refl in
+    let screen = c .seen (AllOf Screen) refl in
+    let attribute = c .seen (AllOf Attribute) refl in (
+      rw (m, screen, attribute)
+          (ap (λ (d : Drawn). answered (d .refusal) (d .reads ∷ []))
+          (drawing-alike (v .machine) (v .bytes Screen) (v .bytes Attribute) (w .bytes Picture) (v .bytes Picture) (c .lengths Picture refl))),
+      with-alike Picture _ _ w v (λ e. rw (m, screen, attribute, e)) refl,
+    )
+sees-only (StoreWithPicture a b) w v c =
+    (picture-answers a b w v c (refusedWithPicture a w) refl, picture-alike a b w v c (refusedWithPicture a w) refl)
+sees-only (GlyphPart k) w v c = (rw (c .seen (AllOf Glyphs) refl), λ part s. s)
+sees-only (DrawLine r s) w v c =
+    let m = c .seen TheMachine refl in
+    let picture = c .seen (AllOf Picture) refl in
+    let table = c .seen (AllOf Glyphs) refl in
+    let same : refusalLine (w .bytes Picture) (w .bytes Glyphs) r s (w .bytes Line) ≡ refusalLine (v .bytes Picture) (v .bytes Glyphs) r s (v .bytes Line) =
+    rw (picture, table, c .lengths Line refl) in (
+      ap (λ (n : ℕ). answered n [])
+          (line-told (w .machine) (w .bytes Picture) (w .bytes Glyphs) r s (w .bytes Line) ∙ same
+          ∙ sym (line-told (v .machine) (v .bytes Picture) (v .bytes Glyphs) r s (v .bytes Line))),
+      with-alike Line _ _ w v (λ e. rw (m, picture, table, e)) refl,
+    )
