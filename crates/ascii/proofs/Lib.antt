@@ -1,1 +1,2 @@
+pub mod Alike
 pub mod Laws

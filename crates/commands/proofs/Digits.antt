@@ -10,7 +10,7 @@ use lib.Dec.{leb}
 use borrow.Author.Tests.{leb-true, le-leb, lt-leb, lt-ltb, le-ltb}
 use Rattle.commands.specs.Meanings.{among, digit, tooLarge, numberFrom, number}
 use Rattle.commands.specs.declared.meanings.Meaning.the-variants.{Number, Wrong}
-use Rattle.commands.proofs.Walks.{next}
+use Rattle.ascii.proofs.Alike.{next}
 
 both : (a b : Bool) → (a && b) ≡ true → (a ≡ true) × (b ≡ true)
 both true b h = (refl, h)

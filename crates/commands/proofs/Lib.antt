@@ -1,5 +1,4 @@
 pub mod Walks
-pub mod Alike
 pub mod Digits
 pub mod Searches
 pub mod Fitting

@@ -5,7 +5,8 @@ use mathlib.Core.List.{List}
 use mathlib.Core.Bool.{Bool, true, false}
 use native.Mathlib.Nat.{suc-mul, le-div-iff-mul-le}
 use native.Mathlib.Omega.{arith}
-use Rattle.commands.specs.Words.{words, firstWord, same}
+use Rattle.ascii.specs.Ascii.{same}
+use Rattle.commands.specs.Words.{words, firstWord}
 use Rattle.commands.specs.Slots.{formBytes, nameBytes, slotCount, slot}
 use Rattle.commands.specs.Meanings.{namedFrom}
 use Rattle.commands.specs.Commands.{bare, fitted, commandFrom, command}

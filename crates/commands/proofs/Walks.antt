@@ -1,19 +1,17 @@
 -- Laws about words: how a walk over a line begins, goes on and ends, and what the first word is.
-use Prim.Native.Nat.{ℕ, _+_, _-_, _≤_, _<_}
+use Prim.Native.Nat.{ℕ, zero, suc, _+_, _-_, _≤_, _<_}
 use mathlib.Core.Path.{_≡_, refl, sym, _∙_}
 use mathlib.Core.List.{List, [], _∷_}
 use mathlib.Core.Bool.{Bool, true, false}
-use native.Mathlib.Numerals.{add-one}
 use native.Mathlib.Nat.{sub-zero}
 use native.Mathlib.Omega.{arith}
 use lib.ListN.{length, getD, take, drop, drop-of-length-le, length-drop}
-use lib.Seq.{drop-cons, take-all}
-use Rattle.commands.specs.Words.{blank, run, wordsFrom, words, firstWord}
+use lib.Seq.{take-all}
+use lib.Dec.{ltb}
+use borrow.Author.Tests.{lt-ltb}
+use Rattle.ascii.proofs.Alike.{next}
+use Rattle.commands.specs.Words.{blank, run, wordsFrom, words, firstWord, hasWords}
 use Rattle.commands.specs.Inner.{unblanked}
-
--- what is left of a list is a byte and what is left after it
-pub next : (l : List ℕ) (at : ℕ) → at < length l → drop at l ≡ getD l at 0 ∷ drop (at + 1) l
-next l at under = rw (add-one at) (drop-cons l at 0 under)
 
 -- a part up to the end is what is left of the list
 pub to-the-end : (l : List ℕ) (at : ℕ) → take (length l - at) (drop at l) ≡ drop at l
@@ -151,3 +149,12 @@ some-words line some = split (words line) some
     split : (ws : List (List ℕ)) → (length (getD ws 0 []) ≡ 0 → ⊥) → ws ≡ getD ws 0 [] ∷ drop 1 ws
     split [] h = absurd (h refl)
     split (w ∷ ws) h = refl
+
+pub has-words : (line : List ℕ) → ltb 0 (length (firstWord line)) ≡ hasWords line
+has-words line = go (length (firstWord line)) refl
+  where
+    go : (bytes : ℕ) → length (firstWord line) ≡ bytes → ltb 0 (length (firstWord line)) ≡ hasWords line
+    go zero e = rw (no-word line e) refl
+    go (suc n) e =
+        rw (some-words line (λ none. omega (arith, e, none)), e)
+        (lt-ltb 0 (suc n) (omega arith) ∙ sym (lt-ltb 0 (suc (length (drop 1 (words line)))) (omega arith)))

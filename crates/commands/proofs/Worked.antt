@@ -1,7 +1,7 @@
 -- The worked cases, by computation.
 use mathlib.Core.Path.{refl}
-use Rattle.ascii.specs.Ascii.{ascii}
-use Rattle.commands.specs.Words.{blank, run, wordsFrom, same}
+use Rattle.ascii.specs.Ascii.{ascii, same}
+use Rattle.commands.specs.Words.{blank, run, wordsFrom}
 use Rattle.commands.specs.Slots.{slot}
 use Rattle.commands.specs.Meanings.{digit, numberFrom, number, namedFrom, meaning}
 use Rattle.commands.specs.Commands.{joined, fitted, commandFrom, command, isMeant}

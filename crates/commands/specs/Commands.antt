@@ -4,7 +4,8 @@ use mathlib.Core.List.{List, [], _∷_}
 use mathlib.Core.Bool.{Bool, _&&_}
 use lib.ListN.{length}
 use lib.Dec.{ltb}
-use Rattle.commands.specs.Words.{words, firstWord, same}
+use Rattle.ascii.specs.Ascii.{same}
+use Rattle.commands.specs.Words.{words, firstWord}
 use Rattle.commands.specs.Slots.{formBytes, slotCount, slot}
 use Rattle.commands.specs.Meanings.{meaning}
 use Rattle.commands.specs.declared.meanings.Meaning.{Meaning}

@@ -4,7 +4,8 @@ use mathlib.Core.List.{List, [], _∷_}
 use mathlib.Core.Bool.{Bool, cond, _&&_}
 use lib.ListN.{length, getD}
 use lib.Dec.{eqb, ltb, leb}
-use Rattle.commands.specs.Words.{firstWord, same}
+use Rattle.ascii.specs.Ascii.{same}
+use Rattle.commands.specs.Words.{firstWord}
 use Rattle.commands.specs.Slots.{nameBytes, slotCount, slot}
 use Rattle.commands.specs.declared.meanings.Meaning.{Meaning}
 use Rattle.commands.specs.declared.meanings.Meaning.the-variants.{Wrong, Plain, Number}

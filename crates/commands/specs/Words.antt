@@ -1,9 +1,9 @@
 -- The words of a line: the longest runs of bytes that are no blanks.
 use Prim.Native.Nat.{ℕ}
 use mathlib.Core.List.{List, [], _∷_, _++_}
-use mathlib.Core.Bool.{Bool, true, false, cond, not, _&&_, _||_}
-use lib.ListN.{getD}
-use lib.Dec.{eqb}
+use mathlib.Core.Bool.{Bool, true, false, cond, not, _||_}
+use lib.ListN.{length, getD}
+use lib.Dec.{eqb, ltb}
 
 -- a space, a tab, a carriage return
 unfoldable pub blank : (byte : ℕ) → Bool
@@ -27,9 +27,6 @@ words line = wordsFrom false line
 abbrev pub firstWord : (line : List ℕ) → List ℕ
 firstWord line = getD (words line) 0 []
 
--- whether two words are the same bytes
-unfoldable pub same : (a b : List ℕ) → Bool
-same [] [] = true
-same [] (y ∷ b) = false
-same (x ∷ a) [] = false
-same (x ∷ a) (y ∷ b) = eqb x y && same a b
+-- whether a line has words; one that has none is passed over
+abbrev pub hasWords : (line : List ℕ) → Bool
+hasWords line = ltb 0 (length (words line))

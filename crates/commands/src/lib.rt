@@ -5,7 +5,7 @@ mod words;
 
 use meanings::Meaning;
 ghost use mathlib.Core.Path.{_≡_};
-ghost use Rattle.commands.specs.Words.{words};
+ghost use Rattle.commands.specs.Words.{words, hasWords};
 ghost use Rattle.commands.specs.Slots.{formBytes, slotCount, slot};
 ghost use Rattle.commands.specs.Commands.{bare, joined, fitted, command, isMeant};
 
@@ -27,6 +27,7 @@ enum Fit {
     Differs,
 }
 
+// How many forms a table has.
 pub fn form_count(forms: &[u8]) -> usize
     ensures { λ r. ⌜ r ≡ slotCount formBytes (now (forms .entry)) ⌝ }
 {
@@ -40,6 +41,13 @@ pub fn form_text(forms: &[u8], form: usize) -> &[u8]
     slots::slot(FORM_BYTES, forms, form)
 }
 
+// Whether a line has words: one that has none is passed over.
+pub fn has_words(line: &[u8]) -> bool
+    ensures { λ r. ⌜ r ≡ hasWords (now (line .entry)) ⌝ }
+{
+    words::first_word(line).len() > 0
+}
+
 // Whether the line's first word is the form's.
 pub fn is_meant(forms: &[u8], form: usize, line: &[u8]) -> bool
     ensures { λ r. ⌜ r ≡ isMeant (now (forms .entry)) form (now (line .entry)) ⌝ }
@@ -48,7 +56,7 @@ pub fn is_meant(forms: &[u8], form: usize, line: &[u8]) -> bool
     if word.len() == 0 {
         return false;
     }
-    words::same(words::first_word(form_text(forms, form)), word)
+    ascii::same(words::first_word(form_text(forms, form)), word)
 }
 
 // The first form that the line fits, with its numbers; where none fits, how many forms there are.
@@ -67,6 +75,7 @@ pub fn parse(forms: &[u8], names: &[u8], line: &[u8]) -> Command
     bare(form)
 }
 
+// A form with no numbers.
 fn bare(form: usize) -> Command
     ensures { λ r. ⌜ r ≡ bare form ⌝ }
 {

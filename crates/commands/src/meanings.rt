@@ -17,6 +17,7 @@ pub enum Meaning {
     Wrong,
 }
 
+// Whether a byte lies between two, or is one of them.
 fn among(low: u8, high: u8, byte: u8) -> bool
     ensures { λ r. ⌜ r ≡ among low high byte ⌝ }
 {
@@ -43,6 +44,7 @@ fn digit(byte: u8) -> usize
     16
 }
 
+// The number that a word is to a base, with no more digits than the form's word has.
 fn number(base: usize, form: &[u8], word: &[u8]) -> Meaning
     requires { ⌜ base ≤ 16 ⌝ }
     ensures { λ r. ⌜ r ≡ number base (now (form .entry)) (now (word .entry)) ⌝ }
@@ -69,13 +71,14 @@ fn number(base: usize, form: &[u8], word: &[u8]) -> Meaning
 
 // The number of the first slot that holds the word.
 fn named(names: &[u8], word: &[u8]) -> Meaning
-    ensures { λ r. ⌜ r ≡ namedFrom (now (names .entry)) (now (word .entry)) 0 (slotCount nameBytes (now (names .entry))) ⌝ }
+    ensures { λ r. ⌜ r
+        ≡ namedFrom (now (names .entry)) (now (word .entry)) 0 (slotCount nameBytes (now (names .entry))) ⌝ }
 {
     let count = names.len() / crate::NAME_BYTES;
     let mut at = 0;
     while at < count {
         let name = words::first_word(slots::slot(crate::NAME_BYTES, names, at));
-        if words::same(name, word) {
+        if ascii::same(name, word) {
             return Meaning::Number(at);
         }
         at += 1;
@@ -83,6 +86,7 @@ fn named(names: &[u8], word: &[u8]) -> Meaning
     Meaning::Wrong
 }
 
+// What a word is to the form's word: H begins a hexadecimal number, D a decimal one, N a name.
 pub fn meaning_of(names: &[u8], form: &[u8], word: &[u8]) -> Meaning
     requires { ⌜ 0 < length (now form) ⌝ }
     ensures { λ r. ⌜ r ≡ meaning (now (names .entry)) (now (form .entry)) (now (word .entry)) ⌝ }
@@ -92,7 +96,7 @@ pub fn meaning_of(names: &[u8], form: &[u8], word: &[u8]) -> Meaning
         b'D' => number(10, form, word),
         b'N' => named(names, word),
         _ => {
-            if words::same(form, word) {
+            if ascii::same(form, word) {
                 return Meaning::Plain;
             }
             Meaning::Wrong

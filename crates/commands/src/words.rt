@@ -1,9 +1,10 @@
 // The words of a line: the longest runs of bytes that are no blanks.
 ghost use mathlib.Core.Path.{_≡_};
 ghost use lib.ListN.{length, drop};
-ghost use Rattle.commands.specs.Words.{blank, run, words, firstWord, same};
+ghost use Rattle.commands.specs.Words.{blank, run, words, firstWord};
 ghost use Rattle.commands.specs.Inner.{unblanked};
 
+// Whether a byte parts words.
 fn is_blank(byte: u8) -> bool
     ensures { λ r. ⌜ r ≡ blank byte ⌝ }
 {
@@ -54,20 +55,4 @@ pub fn rest(line: &[u8]) -> &[u8]
     let word = unblanked(line);
     let end = run(word);
     &word[end..]
-}
-
-pub fn same(a: &[u8], b: &[u8]) -> bool
-    ensures { λ r. ⌜ r ≡ same (now (a .entry)) (now (b .entry)) ⌝ }
-{
-    if a.len() != b.len() {
-        return false;
-    }
-    let mut at = 0;
-    while at < a.len() {
-        if a[at] != b[at] {
-            return false;
-        }
-        at += 1;
-    }
-    true
 }

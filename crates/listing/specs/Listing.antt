@@ -1,16 +1,16 @@
 -- Document 01, "Screens and ports worked out": the row lister.
 use Prim.Native.Nat.{ℕ, zero, suc, _+_, _*_}
 use mathlib.Core.List.{List, [], _∷_, _++_}
-use mathlib.Core.Bool.{cond}
+use mathlib.Core.Bool.{not, cond}
 use lib.ListN.{length, getD}
 use lib.Seq.{sets}
 use lib.Dec.{eqb}
-use Rattle.lent.specs.Refusals.{accepted, lengthRefused}
+use Rattle.lent.specs.Refusals.{refuses, lengthRefused}
 use Rattle.machine.specs.Power.{powerUp}
 use Rattle.machine.specs.Settings.{columns}
 use Rattle.chain.specs.Chain.{rows}
-use Rattle.records.specs.Record.{recordBytes, tornCount, darkCount}
-use Rattle.picture.specs.Draw.{DrawnPicture, drawn, draw}
+use Rattle.records.specs.Record.{recordBytes, startLowAt, kindAt, countAt, tornCount, darkCount}
+use Rattle.picture.specs.Draw.{DrawnPicture, refuseDrawing, draw}
 use Rattle.ascii.specs.Ascii.{ascii}
 use Rattle.ascii.specs.Numbers.{decimal, hex}
 
@@ -37,9 +37,9 @@ line row high low kind count =
 unfoldable pub lineOf : List ℕ → ℕ → List ℕ
 lineOf picture row =
     let at = row * recordBytes in
-    let count = getD picture (at + 3) 0 in
+    let count = getD picture (at + countAt) 0 in
     cond (eqb count darkCount) []
-    (line row (getD picture at 0) (getD picture (at + 1) 0) (getD picture (at + 2) 0) count)
+    (line row (getD picture at 0) (getD picture (at + startLowAt) 0) (getD picture (at + kindAt) 0) count)
 
 -- the lines of the first rows
 unfoldable pub linesTo : List ℕ → ℕ → List ℕ
@@ -53,17 +53,15 @@ refusedText number = ascii "refused " ++ decimal number ++ newline
 -- what is printed of a drawing
 unfoldable pub textOf : (columns : ℕ) → DrawnPicture → List ℕ
 textOf columns left =
-    cond (eqb (left .answer .refusal) accepted)
+    cond (refuses (left .answer .refusal)) (refusedText (left .answer .refusal))
     (heading columns (left .answer .reads) ++ linesTo (left .picture) rows)
-    (refusedText (left .answer .refusal))
 
 -- "reads 8,192 bytes, screen then attribute, at 80 columns. .. Input of another length prints `refused 1`."
 -- `beyond` bytes came after the two memories
 unfoldable pub drawing : (screen attribute : List ℕ) → (beyond : ℕ) → (picture : List ℕ) → DrawnPicture
 drawing screen attribute beyond picture =
-    cond (eqb beyond 0)
+    cond (not (eqb beyond 0)) (refuseDrawing lengthRefused picture)
     (draw powerUp screen attribute picture)
-    (drawn (record { refusal = lengthRefused; reads = 0 }) picture)
 
 -- what listing leaves: how many bytes of text there are, the picture and the text
 pub record Listed : Type 0 where

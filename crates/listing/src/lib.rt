@@ -77,7 +77,7 @@ fn put_row(picture: &[u8], row: usize, text: &mut [u8], at: usize) -> usize
     ensures { λ r. ⌜ r ≤ at + lineMost ⌝ }
 {
     let head = row * records::RECORD_BYTES;
-    let count = picture[head + 3];
+    let count = picture[head + records::COUNT_AT];
     if count == records::DARK {
         return at;
     }
@@ -86,8 +86,8 @@ fn put_row(picture: &[u8], row: usize, text: &mut [u8], at: usize) -> usize
         at,
         row as u16,
         picture[head],
-        picture[head + 1],
-        picture[head + 2],
+        picture[head + records::START_LOW_AT],
+        picture[head + records::KIND_AT],
         count,
     )
 }

@@ -8,7 +8,10 @@ use lent::ByteRead;
 use machine::Written;
 use mending::Stored;
 
-// A number of a line at the width that a call takes. Its form leaves it no more digits than that.
+// The bits of a number of marks. All are shown, also those that no row has.
+const MARK_BITS: usize = 32;
+
+// A number of a line as the byte that a call takes. Its form leaves it no more digits than that.
 pub fn byte(n: usize) -> u8 {
     (n % 256) as u8
 }
@@ -17,6 +20,7 @@ fn word(n: usize) -> u16 {
     (n % 65536) as u16
 }
 
+// A number of a line as an address of the 8088, or as marks: both have 32 bits.
 pub fn address(n: usize) -> u32 {
     (n % 4294967296) as u32
 }
@@ -45,7 +49,7 @@ fn say_stored(answer: Stored) {
         return;
     }
     say::long(b"stored, marks ", answer.marks);
-    for row in 0..32usize {
+    for row in 0..MARK_BITS {
         if marks::is_marked(answer.marks, row) {
             say::number(b" ", row);
         }
@@ -104,6 +108,7 @@ fn call_8088(
     }
 }
 
+// Obeys a line that is a call of the 8088.
 pub fn by_8088(
     desk: Desk,
     command: Command,
@@ -138,6 +143,7 @@ fn read_z80(command: Command, private: &[u8], shared: &[u8]) {
     say_read(memories::read_z80(private, shared, word(command.first)));
 }
 
+// Obeys a line that is a call of the Z80.
 pub fn by_z80(desk: Desk, command: Command, private: &mut [u8], shared: &mut [u8]) {
     let form = command.form;
     let a = desk::cut(desk, desk::PRIVATE, private);
@@ -172,6 +178,7 @@ fn tick(desk: Desk) -> Desk {
     desk::with_machine(desk, ticked)
 }
 
+// Obeys a line that writes to a port or is a tick.
 pub fn to_machine(desk: Desk, command: Command, shadow: &mut [u8], nvm: &mut [u8]) -> Desk {
     let form = command.form;
     match form {
@@ -192,6 +199,7 @@ fn read_shadow(command: Command, shadow: &[u8]) {
     say_read(shadow::read_shadow(shadow, command.first));
 }
 
+// Obeys a line that writes or reads the shadow.
 pub fn to_shadow(desk: Desk, command: Command, shadow: &mut [u8]) {
     let form = command.form;
     let a = desk::cut(desk, desk::SHADOW, shadow);

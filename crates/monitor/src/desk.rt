@@ -3,26 +3,26 @@ ghost use Prim.Native.Nat.{_≤_};
 ghost use lib.ListN.{length};
 use machine::Machine;
 
-// The memories by number, in the order of document 01's list.
+// The memories by number, in the order of document 01's list, each one after the one before it.
 pub const SHARED: usize = 0;
 
-pub const PRIVATE: usize = 1;
+pub const PRIVATE: usize = SHARED + 1;
 
-pub const SCREEN: usize = 2;
+pub const SCREEN: usize = PRIVATE + 1;
 
-pub const ATTRIBUTE: usize = 3;
+pub const ATTRIBUTE: usize = SCREEN + 1;
 
-pub const GLYPHS: usize = 4;
+pub const GLYPHS: usize = ATTRIBUTE + 1;
 
-pub const NVM: usize = 5;
+pub const NVM: usize = GLYPHS + 1;
 
-pub const SHADOW: usize = 6;
+pub const SHADOW: usize = NVM + 1;
 
-pub const PICTURE: usize = 7;
+pub const PICTURE: usize = SHADOW + 1;
 
-pub const LINE: usize = 8;
+pub const LINE: usize = PICTURE + 1;
 
-pub const MEMORIES: usize = 9;
+pub const MEMORIES: usize = LINE + 1;
 
 // Each memory has one byte more than the list says, so that it can be lent too long.
 pub const SHARED_BYTES: usize = lent::SHARED_BYTES + 1;
@@ -49,6 +49,7 @@ pub struct Desk {
     pub lent: [usize; MEMORIES],
 }
 
+// The machine at power-up, and every memory lent whole.
 pub fn power_up() -> Desk {
     Desk {
         machine: Machine::power_up(),
@@ -66,6 +67,7 @@ pub fn power_up() -> Desk {
     }
 }
 
+// The same memories lent, with another machine.
 pub fn with_machine(desk: Desk, machine: Machine) -> Desk {
     let lent = desk.lent;
     Desk { machine, lent }

@@ -1,67 +1,74 @@
 // The forms of the lines. H stands for a hexadecimal digit, D for a decimal one, NAME for a memory.
+use crate::desk;
 use crate::input;
 use crate::say;
 use commands::Command;
 
+// Each form is one place after the one before it, in the order of the table below. The table's length is
+// made of their number, so a form too many or too few does not compile; a test in host/ holds each name to
+// its form's words.
+//
 // The calls of the library.
 pub const STORE: usize = 0;
 
-pub const BLIND: usize = 1;
+pub const BLIND: usize = STORE + 1;
 
-pub const READ: usize = 2;
+pub const READ: usize = BLIND + 1;
 
-pub const Z80_STORE: usize = 3;
+pub const Z80_STORE: usize = READ + 1;
 
-pub const Z80_READ: usize = 4;
+pub const Z80_READ: usize = Z80_STORE + 1;
 
-pub const PORT: usize = 5;
+pub const PORT: usize = Z80_READ + 1;
 
-pub const TICK: usize = 6;
+pub const TICK: usize = PORT + 1;
 
-pub const SHADOW_WRITE: usize = 7;
+pub const SHADOW_WRITE: usize = TICK + 1;
 
-pub const SHADOW_READ: usize = 8;
+pub const SHADOW_READ: usize = SHADOW_WRITE + 1;
 
-pub const DRAW: usize = 9;
+pub const DRAW: usize = SHADOW_READ + 1;
 
-pub const MARKED: usize = 10;
+pub const MARKED: usize = DRAW + 1;
 
-pub const LINE: usize = 11;
+pub const LINE: usize = MARKED + 1;
 
-pub const GLYPH: usize = 12;
+pub const GLYPH: usize = LINE + 1;
 
-pub const DOTS: usize = 13;
+pub const DOTS: usize = GLYPH + 1;
+
+pub const SCROLL: usize = DOTS + 1;
 
 // What is done by hand, or only shown.
-pub const POWER: usize = 14;
+pub const POWER: usize = SCROLL + 1;
 
-pub const MACHINE: usize = 15;
+pub const MACHINE: usize = POWER + 1;
 
-pub const LATCH: usize = 16;
+pub const LATCH: usize = MACHINE + 1;
 
-pub const ROWS: usize = 17;
+pub const ROWS: usize = LATCH + 1;
 
-pub const TEXT: usize = 18;
+pub const TEXT: usize = ROWS + 1;
 
-pub const LIST: usize = 19;
+pub const LIST: usize = TEXT + 1;
 
-pub const SUMS: usize = 20;
+pub const SUMS: usize = LIST + 1;
 
-pub const HELP: usize = 21;
+pub const HELP: usize = SUMS + 1;
 
-pub const LEND: usize = 22;
+pub const LEND: usize = HELP + 1;
 
-pub const FILL: usize = 23;
+pub const FILL: usize = LEND + 1;
 
-pub const PUT: usize = 24;
+pub const PUT: usize = FILL + 1;
 
-pub const BYTES: usize = 25;
+pub const BYTES: usize = PUT + 1;
 
-pub const STREW: usize = 26;
+pub const STREW: usize = BYTES + 1;
 
-pub const FORMS: usize = 27;
+const FORMS: usize = STREW + 1;
 
-const FORM_TEXTS: [u8; 864] = *b"store HHHHHHHH HH               \
+const FORM_TEXTS: [u8; FORMS * commands::FORM_BYTES] = *b"store HHHHHHHH HH               \
     blind HHHHHHHH HH               \
     read HHHHHHHH                   \
     z80 store HHHH HH               \
@@ -75,6 +82,7 @@ const FORM_TEXTS: [u8; 864] = *b"store HHHHHHHH HH               \
     line DDDDD DDDDD                \
     glyph HH                        \
     dots                            \
+    scroll                          \
     power                           \
     machine                         \
     latch HH                        \
@@ -89,8 +97,8 @@ const FORM_TEXTS: [u8; 864] = *b"store HHHHHHHH HH               \
     bytes NAME DDDDD DDDDD          \
     strew NAME DDDDD DDDDD DDDDD    ";
 
-// The memories, in the order of document 01's list.
-const NAMES: [u8; 144] = *b"shared          \
+// The memories, in the order of their numbers.
+const NAMES: [u8; desk::MEMORIES * commands::NAME_BYTES] = *b"shared          \
     private         \
     screen          \
     attribute       \
@@ -100,8 +108,13 @@ const NAMES: [u8; 144] = *b"shared          \
     picture         \
     line            ";
 
+// The form that a line has, with its numbers. One that is too long has none.
 pub fn parse(text: &[u8]) -> Command {
     commands::parse(&FORM_TEXTS, &NAMES, input::unless_long(text))
+}
+
+fn form_count() -> usize {
+    commands::form_count(&FORM_TEXTS)
 }
 
 // Shows a form without the blanks after it.
@@ -113,7 +126,7 @@ fn show(words: &[u8], form: usize) {
 
 // Shows every form.
 pub fn help() {
-    for form in 0..FORMS {
+    for form in 0..form_count() {
         show(b"  ", form);
     }
     say::line(
@@ -140,7 +153,7 @@ pub fn no_form(text: &[u8]) {
         say::line(text);
         return;
     }
-    if !input::is_blank(text) {
+    if commands::has_words(text) {
         expected(text);
     }
 }
@@ -148,7 +161,7 @@ pub fn no_form(text: &[u8]) {
 // Tells what was expected: the forms that begin with the line's first word.
 fn expected(text: &[u8]) {
     let mut meant = false;
-    for form in 0..FORMS {
+    for form in 0..form_count() {
         meant = meant | shown_if_meant(form, text);
     }
     if !meant {

@@ -61,7 +61,7 @@ fn lend(desk: Desk, command: Command, has: usize) -> Desk {
     desk::with_lent(desk, command.first, command.second)
 }
 
-// The lines that name a memory.
+// Obeys a line that names a memory.
 pub fn named(
     desk: Desk,
     command: Command,
@@ -89,6 +89,7 @@ pub fn named(
     }
 }
 
+// Shows a sum of each memory, so that a change of any byte of one shows.
 pub fn sums(
     shared: &[u8; desk::SHARED_BYTES],
     private: &[u8; desk::PRIVATE_BYTES],

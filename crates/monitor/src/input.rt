@@ -1,4 +1,6 @@
 // Lines of text, read a byte at a time, so that a line typed at a terminal is answered at once.
+use crate::desk;
+use crate::say;
 use libc::STDERR_FILENO;
 use libc::STDIN_FILENO;
 
@@ -10,6 +12,7 @@ const LINE_BYTES: usize = 200;
 pub const TEXT_BYTES: usize = LINE_BYTES + 1;
 
 // Where lines are read, the file that an argument names or standard input, and the bytes of the last line.
+// Argument 0 stands for standard input.
 pub struct Source {
     pub fd: i32,
     pub argument: usize,
@@ -85,6 +88,28 @@ pub fn next(source: Source, text: &mut [u8]) -> Source {
     }
 }
 
+// The line that was read. One of a file is shown first, so that what is written reads alone.
+pub fn line(source: Source, text: &[u8]) -> &[u8] {
+    let bytes = desk::up_to(source.bytes, text);
+    let line = &text[0..bytes];
+    if source.argument > 0 {
+        echo(line);
+    }
+    line
+}
+
+// Shows a line ahead of its answer. A remark is its own answer, and of a line that is too long only the
+// beginning was kept.
+fn echo(line: &[u8]) {
+    if is_long(line) | is_remark(line) {
+        return;
+    }
+    if commands::has_words(line) {
+        say::text(b"> ");
+        say::line(line);
+    }
+}
+
 fn is_read(fd: i32, one: &mut [u8; 1]) -> bool {
     libc::read(fd, one) > 0
 }
@@ -129,6 +154,7 @@ fn next_line(fd: i32, text: &mut [u8]) -> Typed {
     }
 }
 
+// Whether a line has more bytes than it may.
 pub fn is_long(text: &[u8]) -> bool {
     text.len() > LINE_BYTES
 }
@@ -147,24 +173,4 @@ pub fn is_remark(text: &[u8]) -> bool {
         return false;
     }
     text[0] == b'#'
-}
-
-fn parts_words(byte: u8) -> bool {
-    if byte == b' ' {
-        return true;
-    }
-    if byte == b'\t' {
-        return true;
-    }
-    byte == b'\r'
-}
-
-// A line of no words.
-pub fn is_blank(text: &[u8]) -> bool {
-    for i in 0..text.len() {
-        if !parts_words(text[i]) {
-            return false;
-        }
-    }
-    true
 }

@@ -33,10 +33,9 @@ fn main() {
         if source.over {
             return;
         }
-        let bytes = desk::up_to(source.bytes, &text);
         desk = turn(
             desk,
-            &text[0..bytes],
+            input::line(source, &text),
             &mut shared,
             &mut private,
             &mut screen,
@@ -74,7 +73,7 @@ fn turn(
         forms::Z80_STORE..=forms::Z80_READ => calls::by_z80(desk, command, private, shared),
         forms::PORT..=forms::TICK => return calls::to_machine(desk, command, shadow, nvm),
         forms::SHADOW_WRITE..=forms::SHADOW_READ => calls::to_shadow(desk, command, shadow),
-        forms::DRAW..=forms::DOTS => {
+        forms::DRAW..=forms::SCROLL => {
             scans::show(desk, command, screen, attribute, picture, glyphs, line)
         }
         forms::SUMS => hand::sums(

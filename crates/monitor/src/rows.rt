@@ -3,6 +3,9 @@ use crate::desk;
 use crate::desk::Desk;
 use crate::say;
 
+// The pairs of character and attribute that a record has.
+const PAIRS: usize = (records::RECORD_BYTES - records::HEAD_BYTES) / 2;
+
 // A byte of a memory. Those of this program have all the places that it asks for.
 pub fn byte_of(picture: &[u8], place: usize) -> u8 {
     if place < picture.len() {
@@ -11,7 +14,7 @@ pub fn byte_of(picture: &[u8], place: usize) -> u8 {
     0
 }
 
-// A line for each row that is not dark: row, start, kind, count.
+// The line of a row that is not dark: row, start, kind, count.
 fn list_row(picture: &[u8], row: usize) {
     let at = row % chain::ROWS * records::RECORD_BYTES;
     let count = byte_of(picture, at + records::COUNT_AT);
@@ -40,6 +43,7 @@ fn say_count(count: u8) {
     say::text(b"\n");
 }
 
+// A line for each row of the picture that is not dark.
 pub fn list(picture: &[u8]) {
     for row in 0..chain::ROWS {
         list_row(picture, row);
@@ -59,8 +63,8 @@ fn shown(character: u8) -> u8 {
 
 fn show_row(picture: &[u8], row: usize, columns: usize) {
     let at = row % chain::ROWS * records::RECORD_BYTES + records::HEAD_BYTES;
-    let mut text = [b' '; 132];
-    for cell in 0..132usize {
+    let mut text = [b' '; PAIRS];
+    for cell in 0..PAIRS {
         text[cell] = shown(byte_of(picture, at + 2 * cell));
     }
     say_cells(&text, columns);

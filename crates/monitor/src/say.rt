@@ -2,10 +2,12 @@
 use libc::STDOUT_FILENO;
 use machine::Machine;
 
+// Writes bytes as they are.
 pub fn text(words: &[u8]) {
     io::write_all(STDOUT_FILENO, words);
 }
 
+// Writes bytes and ends the line.
 pub fn line(words: &[u8]) {
     text(words);
     text(b"\n");
@@ -23,25 +25,19 @@ pub fn trimmed(words: &[u8]) {
     }
 }
 
+// Words, then a number in decimal.
 pub fn number(words: &[u8], n: usize) {
     text(words);
     io::print_decimal(STDOUT_FILENO, n as u64);
 }
 
-fn digit(n: u8) -> u8 {
-    if n < 10 {
-        return b'0' + n % 10;
-    }
-    b'A' + n % 10
-}
-
-// Two hexadecimal digits.
+// Words, then two hexadecimal digits.
 pub fn byte(words: &[u8], n: u8) {
     text(words);
-    text(&[digit(n / 16), digit(n % 16)]);
+    text(&[ascii::digit(n / 16), ascii::digit(n % 16)]);
 }
 
-// Eight of them.
+// Words, then eight hexadecimal digits.
 pub fn long(words: &[u8], n: u32) {
     byte(words, (n / 16777216) as u8);
     byte(b"", (n / 65536 % 256) as u8);
@@ -49,6 +45,7 @@ pub fn long(words: &[u8], n: u32) {
     byte(b"", (n % 256) as u8);
 }
 
+// A line of words and then bytes, each after a blank.
 pub fn bytes(words: &[u8], list: &[u8]) {
     text(words);
     for i in 0..list.len() {
@@ -71,7 +68,8 @@ pub fn because(refusal: u8) {
         lent::PORT => line(b": the port is none of 04, 0A, 0C, 10C"),
         lent::CODE => line(b": the port has no such code"),
         lent::PLACE => line(b": no such row, scan or place"),
-        _ => line(b": bits 6 and 7 both rise"),
+        lent::EDGES => line(b": bits 6 and 7 both rise"),
+        _ => line(b": a refusal that the monitor does not know"),
     }
 }
 
@@ -106,6 +104,7 @@ fn port_0a(machine: Machine) {
     flag(b", graphics", machine.graphics());
 }
 
+// A line of words and then the machine, setting by setting.
 pub fn machine(words: &[u8], machine: Machine) {
     number(words, machine.columns());
     if machine.hertz50 {

@@ -75,8 +75,8 @@ fn say_line(machine: Machine, refusal: u8, line: &[u8]) {
 }
 
 fn show_dots(line: &[u8], dots: usize) {
-    let mut text = [b'?'; 1188];
-    for dot in 0..1188usize {
+    let mut text = [b'?'; lent::LINE_BYTES];
+    for dot in 0..lent::LINE_BYTES {
         text[dot] = shown(rows::byte_of(line, dot));
     }
     let dots = desk::up_to(dots, &text);
@@ -99,6 +99,12 @@ fn count(desk: Desk) {
     say::text(b"\n");
 }
 
+fn scroll(desk: Desk) {
+    say::byte(b"scroll latch: ", desk.machine.scroll_latch());
+    say::text(b"\n");
+}
+
+// Obeys a line that draws, or that asks what a drawing goes by.
 pub fn show(
     desk: Desk,
     command: Command,
@@ -114,6 +120,7 @@ pub fn show(
         forms::MARKED => is_marked(command),
         forms::LINE => draw_line(desk, command, picture, table, line),
         forms::GLYPH => part(desk, command, table),
-        _ => count(desk),
+        forms::DOTS => count(desk),
+        _ => scroll(desk),
     }
 }

@@ -29,6 +29,7 @@ fn strewn(a: u64, b: u64, every: u64, under: u64) -> u8 {
     (b / 65536 % under % 256) as u8
 }
 
+// Fills a memory with bytes of any value.
 pub fn strew(memory: &mut [u8], seed: usize, every: usize, under: usize) {
     let mut state = seed as u64;
     for i in 0..memory.len() {
@@ -39,6 +40,7 @@ pub fn strew(memory: &mut [u8], seed: usize, every: usize, under: usize) {
     say::line(b"strewn");
 }
 
+// Words, then the sum of a memory.
 pub fn sum(words: &[u8], memory: &[u8]) {
     let mut sum = 0;
     for i in 0..memory.len() {

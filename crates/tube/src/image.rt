@@ -28,6 +28,7 @@ fn row(machine: Machine, picture: &[u8; PICTURE_BYTES], table: &[u8; GLYPH_BYTES
     }
 }
 
+// Writes the picture of the whole tube to standard output.
 pub fn write(machine: Machine, picture: &[u8; PICTURE_BYTES], table: &[u8; GLYPH_BYTES]) {
     io::write_all(STDOUT_FILENO, b"P5\n");
     io::print_decimal(STDOUT_FILENO, scan_line::dots_of_line(machine) as u64);

@@ -13,33 +13,21 @@ pub struct Settings {
     pub wrong: bool,
 }
 
-fn same(a: &[u8], b: &[u8]) -> bool {
-    if a.len() != b.len() {
-        return false;
-    }
-    for i in 0..a.len() {
-        if a[i] != b[i] {
-            return false;
-        }
-    }
-    true
-}
-
 fn with_word(before: Settings, word: &[u8]) -> Settings {
     let mut settings = before;
-    if same(word, b"132") {
+    if ascii::same(word, b"132") {
         settings.columns132 = true;
         return settings;
     }
-    if same(word, b"reverse") {
+    if ascii::same(word, b"reverse") {
         settings.reverse = true;
         return settings;
     }
-    if same(word, b"blink") {
+    if ascii::same(word, b"blink") {
         settings.blink = true;
         return settings;
     }
-    if same(word, b"blanked") {
+    if ascii::same(word, b"blanked") {
         settings.blanked = true;
         return settings;
     }
@@ -47,6 +35,7 @@ fn with_word(before: Settings, word: &[u8]) -> Settings {
     settings
 }
 
+// The settings that the program's arguments name.
 pub fn from_arguments() -> Settings {
     let mut settings = Settings {
         columns132: false,
@@ -73,6 +62,7 @@ fn write(asked: bool, machine: Machine, port: u16, code: u8) -> Machine {
     ports::write_port(machine, &mut shadow, &mut nvm, port, code).machine
 }
 
+// The machine that has these settings: power-up, and then a write to a port for each.
 pub fn machine(settings: Settings) -> Machine {
     let machine = Machine::power_up();
     let machine = write(!settings.blanked, machine, 0x0A, 0x02);

@@ -1,7 +1,10 @@
 //! What a line says: docs/MONITOR.md's table of forms, and the words and digits of a line.
+use crate::chain::PICTURE;
+use crate::dots::{GLYPHS, LINE};
+use crate::memories::{ATTRIBUTE, NVM, PRIVATE, SCREEN, SHADOW, SHARED};
 
 /// The forms, in the order that `help` has.
-pub const FORMS: [&str; 27] = [
+pub const FORMS: [&str; 28] = [
     "store HHHHHHHH HH",
     "blind HHHHHHHH HH",
     "read HHHHHHHH",
@@ -16,6 +19,7 @@ pub const FORMS: [&str; 27] = [
     "line DDDDD DDDDD",
     "glyph HH",
     "dots",
+    "scroll",
     "power",
     "machine",
     "latch HH",
@@ -33,15 +37,15 @@ pub const FORMS: [&str; 27] = [
 
 /// The memories with their lengths by document 01, in the order of their names.
 pub const NAMES: [(&str, usize); 9] = [
-    ("shared", 65536),
-    ("private", 2048),
-    ("screen", 4096),
-    ("attribute", 4096),
-    ("glyphs", 4096),
-    ("nvm", 256),
-    ("shadow", 256),
-    ("picture", 6432),
-    ("line", 1188),
+    ("shared", SHARED),
+    ("private", PRIVATE),
+    ("screen", SCREEN),
+    ("attribute", ATTRIBUTE),
+    ("glyphs", GLYPHS),
+    ("nvm", NVM),
+    ("shadow", SHADOW),
+    ("picture", PICTURE),
+    ("line", LINE),
 ];
 
 pub const LONGEST: usize = 200;
@@ -202,6 +206,44 @@ mod tests {
         let mut line = vec![b' '; 196];
         line.extend(b"tick");
         assert_eq!(understood(&line), Line::Call("tick", vec![]));
+    }
+
+    /// The texts of a table in the program's code, and the names of the positions ahead of another name.
+    fn table_of(code: &str, table: &str, places: &str, after: &str) -> (Vec<String>, Vec<String>) {
+        let (_, rest) = code.split_once(&format!("const {table}:")).unwrap();
+        let texts = rest.split('"').nth(1).unwrap().split("\\\n");
+        let names = places
+            .lines()
+            .filter_map(|line| line.split_once("const ")?.1.split(':').next())
+            .take_while(|name| *name != after)
+            .map(|name| name.to_lowercase().replace('_', " "));
+        (
+            texts.map(|text| text.trim().to_string()).collect(),
+            names.collect(),
+        )
+    }
+
+    #[test]
+    fn the_program_has_each_form_and_name_at_the_position_of_its_words() {
+        let forms = include_str!("../../../crates/monitor/src/forms.rt");
+        let desk = include_str!("../../../crates/monitor/src/desk.rt");
+        let words = |form: &str| {
+            let plain = |word: &&str| !word.starts_with(|letter: char| letter.is_uppercase());
+            let words: Vec<&str> = form.split(' ').take_while(plain).collect();
+            words.join(" ")
+        };
+        let (texts, places) = table_of(forms, "FORM_TEXTS", forms, "FORMS");
+        assert_eq!(texts, FORMS);
+        assert_eq!(places, FORMS.map(words));
+        let (texts, places) = table_of(forms, "NAMES", desk, "MEMORIES");
+        let names = NAMES.map(|(name, _)| name);
+        assert_eq!(
+            (texts, places),
+            (
+                names.map(str::to_string).to_vec(),
+                names.map(str::to_string).to_vec()
+            )
+        );
     }
 
     #[test]

@@ -5,6 +5,7 @@ mod memory;
 pub mod session;
 pub mod shown;
 
+use lines::{understood, Line};
 pub use session::Session;
 
 /// The lines of a text, without their ends. The last one need not have an end.
@@ -17,6 +18,21 @@ pub fn split(text: &[u8]) -> impl Iterator<Item = &[u8]> {
 /// What a session answers to every line of a text.
 pub fn answers(session: &mut Session, text: &[u8]) -> Vec<u8> {
     split(text).flat_map(|line| session.answer(line)).collect()
+}
+
+/// What is written for every line of a file: the line, after "> ", ahead of its answer.
+pub fn transcript(session: &mut Session, text: &[u8]) -> Vec<u8> {
+    let told = |line| [echo(line), session.answer(line)].concat();
+    split(text).flat_map(told).collect()
+}
+
+/// A line as it is shown ahead of its answer. A remark is its own answer, and of a line over 200 bytes only the
+/// answer is shown.
+fn echo(line: &[u8]) -> Vec<u8> {
+    match understood(line) {
+        Line::Call(..) | Line::Bad(_) => [b"> ", line, b"\n"].concat(),
+        Line::Blank | Line::Remark(_) | Line::TooLong => Vec::new(),
+    }
 }
 
 #[cfg(test)]
@@ -37,8 +53,33 @@ mod tests {
     }
 
     #[test]
+    fn lines_of_a_file_are_shown() {
+        let long = " ".repeat(201);
+        let text = format!("read 0\n\n \t\n# a\n read\t0\r\nreads\n{long}\n #");
+        let mut session = Session::power_up();
+        let told = String::from_utf8(transcript(&mut session, text.as_bytes())).unwrap();
+        let none = "expected one of the lines that help shows\n";
+        let first = "> read 0\nreads 00\n# a\n>  read\t0\r\nreads 00\n";
+        let too_long = "expected at most 200 bytes in a line\n";
+        let all = format!("{first}> reads\n{none}{too_long}>  #\n{none}");
+        assert_eq!(told, all);
+        assert_eq!(
+            transcript(&mut session, b"\xFF"),
+            [b"> \xFF\n", none.as_bytes()].concat()
+        );
+    }
+
+    #[test]
+    fn refusals_are_told_by_number() {
+        let both = "refused 6: bits 6 and 7 both rise";
+        assert_eq!(shown::refused("port HHHH HH", 6), both);
+        let other = "refused 7, byte 00: a refusal that the monitor does not know";
+        assert_eq!(shown::refused("read HHHHHHHH", 7), other);
+    }
+
+    #[test]
     fn calls_are_answered_in_words() {
-        let lines: [(&str, &str); 12] = [
+        let lines: [(&str, &str); 14] = [
             ("store 5 41", "stored, marks 00000000\n"),
             ("draw", "drawn, bytes read: 81"),
             ("store ee000 fF", "stored, marks 00FFFFFF 0 1 2 3"),
@@ -53,10 +94,12 @@ mod tests {
                 "latch 1F",
                 "latched: 80 columns, 60 Hz, interlace 0, latch 1F",
             ),
+            ("scroll", "scroll latch: 0F\n"),
             (
                 "port C 4",
                 "written: 80 columns, 60 Hz, interlace 0, latch 03",
             ),
+            ("scroll", "scroll latch: 03\n"),
         ];
         let mut session = Session::power_up();
         for (line, begins) in lines {
@@ -67,7 +110,8 @@ mod tests {
 
     #[test]
     fn a_wrong_length_stays_lent_until_power_up() {
-        let text = b"lend shared 65537\nread FFFFFFFF\nz80 read 0\nlend shared 65536\nread 0\nlend screen 0\npower\ndraw\n";
+        let text = b"lend shared 65537\nread FFFFFFFF\nz80 read 0\nlend shared 65536\nread 0\n\
+            lend screen 0\npower\ndraw\n";
         let refused = "refused 1, byte 00: a memory lent at another length than its own";
         let heard = heard(text);
         let lines: Vec<_> = heard.lines().collect();

@@ -94,6 +94,7 @@ impl Session {
                 return Ok(shown::sums(memories.map(|memory| &memory.bytes[..])));
             }
             "dots" => return Ok(format!("dots of a line: {}", self.dots())),
+            "scroll" => return Ok(format!("scroll latch: {:02X}", self.machine.latch % 16)),
             "tick" => {
                 self.machine.interrupt = true;
                 "ticked"
@@ -193,7 +194,7 @@ impl Session {
     fn dots(&self) -> usize {
         match self.columns() {
             80 => 800,
-            _ => 1188,
+            _ => dots::LINE,
         }
     }
 

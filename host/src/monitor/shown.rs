@@ -18,7 +18,8 @@ pub fn refused(form: &str, number: u8) -> String {
         3 => "the port is none of 04, 0A, 0C, 10C",
         4 => "the port has no such code",
         5 => "no such row, scan or place",
-        _ => "bits 6 and 7 both rise",
+        6 => "bits 6 and 7 both rise",
+        _ => "a refusal that the monitor does not know",
     };
     format!("refused {number}{beside}: {words}")
 }
@@ -43,12 +44,12 @@ pub fn machine(m: &Machine) -> String {
 }
 
 pub fn marks(marks: u32) -> String {
-    let rows = (0..32).filter(|row| marks >> row & 1 == 1);
+    let rows = (0..u32::BITS).filter(|row| marks >> row & 1 == 1);
     let rows: String = rows.map(|row| format!(" {row}")).collect();
     format!("stored, marks {marks:08X}{rows}")
 }
 
-/// Whether a number has the bit of a row. It has 32 bits.
+/// Whether a number has the bit of a row, of those that it has.
 pub fn marked(marks: u32, row: usize) -> String {
     let word = match marks.checked_shr(row as u32) {
         Some(bits) if bits & 1 == 1 => "marked",

@@ -1,9 +1,11 @@
 //! Every call with each of its memories lent too short and too long.
-use super::Script;
+use super::{Script, ROWS};
 use crate::monitor::lines::NAMES;
 
 /// What is called, the memories that it is lent, a line that is accepted and one that is not.
-const CALLS: [(&str, &[&str], &str, &str); 11] = [
+type Tried<'a> = (&'a str, &'a [&'a str], &'a str, &'a str);
+
+const CALLS: [Tried<'static>; 11] = [
     (
         "the 8088's read",
         &["shared", "screen", "attribute"],
@@ -67,28 +69,36 @@ const CALLS: [(&str, &[&str], &str, &str); 11] = [
     ("the part of a code", &["glyphs"], "glyph 00", "glyph FF"),
 ];
 
-/// The same of the two calls that draw.
-const DRAWING: [(&str, &[&str], &str, &str); 2] = [
-    (
-        "the drawing call",
-        &["screen", "attribute", "picture"],
-        "draw",
-        "draw",
-    ),
-    (
-        "the scan line call",
-        &["picture", "glyphs", "line"],
-        "line 0 1",
-        "line 24 0",
-    ),
-];
+/// The calls with the two that draw; one is refused at a row past the last.
+fn calls(past: &str) -> Vec<Tried<'_>> {
+    let drawing: [Tried; 2] = [
+        (
+            "the drawing call",
+            &["screen", "attribute", "picture"],
+            "draw",
+            "draw",
+        ),
+        (
+            "the scan line call",
+            &["picture", "glyphs", "line"],
+            "line 0 1",
+            past,
+        ),
+    ];
+    CALLS.into_iter().chain(drawing).collect()
+}
 
 pub fn script() -> Script {
-    let mut script = Script::new(0, "LENGTHS. \"1: a lent buffer's length differs from the list. The lowest number wins. All buffers and the machine stay.\"");
+    let mut script = Script::new(
+        0,
+        "LENGTHS. \"1: a lent buffer's length differs from the list. The lowest number wins. All buffers \
+         and the machine stay.\"",
+    );
     for (seed, (name, _)) in NAMES.iter().enumerate() {
         script.line(&format!("strew {name} {} 20 256", 400 + seed));
     }
-    for (call, memories, right, wrong) in CALLS.into_iter().chain(DRAWING) {
+    let past = format!("line {ROWS} 0");
+    for (call, memories, right, wrong) in calls(&past) {
         script.remark(&format!("By {call}: {}.", memories.join(", ")));
         script.line("sums");
         for name in memories {
@@ -115,7 +125,7 @@ pub fn script() -> Script {
     script.lines(&["lend attribute 0", "z80 read 0800", "line 0 1"]);
     script.remark("Lent at their own lengths, each is accepted, or refused by the next number.");
     script.lines(&["power", "port 0A 02"]);
-    for (_, _, right, wrong) in CALLS.into_iter().chain(DRAWING) {
+    for (_, _, right, wrong) in calls(&past) {
         script.lines(&[right, wrong]);
     }
     script.lines(&["sums", "machine"]);

@@ -2,7 +2,10 @@
 use super::Script;
 
 pub fn script() -> Script {
-    let mut script = Script::new(0, "EVERY PORT. Every code of 04, 10C and 0C; those that are not in the port's list change nothing.");
+    let mut script = Script::new(
+        0,
+        "EVERY PORT. Every code of 04, 10C and 0C; those that are not in the port's list change nothing.",
+    );
     script.lines(&["fill shadow 11", "fill nvm EE", "tick"]);
     for port in ["04", "10C", "0C"] {
         script.remark(&format!("Port {port}, codes 00 to FF."));

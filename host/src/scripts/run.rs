@@ -4,7 +4,11 @@ use super::Script;
 const TURNS: usize = 320;
 
 pub fn script() -> Script {
-    let mut script = Script::new(5, "A RUN. Stores by both processors, ticks and writes to ports, refused ones among them; one picture kept.");
+    let mut script = Script::new(
+        5,
+        "A RUN. Stores by both processors, ticks and writes to ports, refused ones among them; one \
+         picture kept.",
+    );
     script.lines(&["fill shadow 11", "fill nvm EE", "strew screen 51 40 17"]);
     script.lines(&["strew attribute 52 30 256", "draw"]);
     for turn in 1..=TURNS {

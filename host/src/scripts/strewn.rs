@@ -51,7 +51,7 @@ fn kept(script: &mut Script) {
     }
 }
 
-/// A chain of 24 rows, each a few bytes after the one before, most of them full; one may be torn.
+/// A chain of all rows, each a few bytes after the one before, most of them full; one may be torn.
 fn lay(script: &mut Script, columns: usize, torn: usize) {
     let (mut start, mut kind) = (0, 3);
     for row in 0..ROWS {

@@ -28,20 +28,11 @@ next-requires c κs = search needs
 returns : tie.Need-returns Inv-loop μ-loop
 returns c = search needs
 
-slice-aggregate-up-to : tie.Need-slice-aggregate-up-to Inv-loop μ-loop
-slice-aggregate-up-to c = search needs
+slice-aggregate-line : tie.Need-slice-aggregate-line Inv-loop μ-loop
+slice-aggregate-line c = search needs
 
-up-to-requires : tie.Need-up-to-requires Inv-loop μ-loop
-up-to-requires c κs = search needs
-
-sub-turn : tie.Need-sub-turn Inv-loop μ-loop
-sub-turn c = search needs
-
-part-turn-start : tie.Need-part-turn-start Inv-loop μ-loop
-part-turn-start c = search needs
-
-part-turn-end : tie.Need-part-turn-end Inv-loop μ-loop
-part-turn-end c = search needs
+line-requires : tie.Need-line-requires Inv-loop μ-loop
+line-requires c κs = search needs
 
 turn-requires : tie.Need-turn-requires Inv-loop μ-loop
 turn-requires c κs = search needs
@@ -70,11 +61,8 @@ main-spec =
     slice-aggregate-next
     next-requires
     returns
-    slice-aggregate-up-to
-    up-to-requires
-    sub-turn
-    part-turn-start
-    part-turn-end
+    slice-aggregate-line
+    line-requires
     turn-requires
     sub-turns
     loop-less

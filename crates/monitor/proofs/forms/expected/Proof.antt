@@ -1,16 +1,19 @@
-use Prim.Native.Nat.{_-_, _≤_}
+use Prim.Native.Nat.{_-_}
 use borrow.Author.Needs.{needs}
 use Rattle.monitor.proofs.forms.expected.Statement.{statement}
 use Rattle.monitor.proofs.forms.expected.Tie as tie
 
 abbrev Inv-loop : tie.InvT-loop
-Inv-loop text meant₀ form₀ t4 meant form = form ≤ 27
+Inv-loop text meant₀ form₀ t4 form-end meant form = Unit {0}
 
 abbrev μ-loop : tie.MeasureT-loop
-μ-loop text meant₀ form₀ t4 meant form = 27 - form
+μ-loop text meant₀ form₀ t4 form-end meant form = form-end - form
 
 returns : tie.Need-returns Inv-loop μ-loop
 returns c = search needs
+
+form-count-requires : tie.Need-form-count-requires Inv-loop μ-loop
+form-count-requires c κs = search needs
 
 loop-holds : tie.Need-loop-holds Inv-loop μ-loop
 loop-holds c = search needs
@@ -42,6 +45,7 @@ expected-spec =
     (tie.spec
     Inv-loop
     μ-loop
+    form-count-requires
     loop-holds
     shown-if-meant-requires
     add-form

@@ -1,13 +1,16 @@
-use Prim.Native.Nat.{_-_, _≤_}
+use Prim.Native.Nat.{_-_}
 use borrow.Author.Needs.{needs}
 use Rattle.monitor.proofs.forms.help.Statement.{statement}
 use Rattle.monitor.proofs.forms.help.Tie as tie
 
 abbrev Inv-loop : tie.InvT-loop
-Inv-loop form₀ t2 t3 form = form ≤ 27
+Inv-loop form₀ t2 t3 form-end form = Unit {0}
 
 abbrev μ-loop : tie.MeasureT-loop
-μ-loop form₀ t2 t3 form = 27 - form
+μ-loop form₀ t2 t3 form-end form = form-end - form
+
+form-count-requires : tie.Need-form-count-requires Inv-loop μ-loop
+form-count-requires c κs = search needs
 
 loop-holds : tie.Need-loop-holds Inv-loop μ-loop
 loop-holds c = search needs
@@ -42,6 +45,7 @@ help-spec =
     (tie.spec
     Inv-loop
     μ-loop
+    form-count-requires
     loop-holds
     slice-aggregate-show
     show-requires

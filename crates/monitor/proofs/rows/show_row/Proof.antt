@@ -2,14 +2,15 @@ use Prim.Native.Nat.{_-_, _≤_}
 use mathlib.Core.Path.{_≡_}
 use lib.ListN.{length}
 use borrow.Author.Needs.{needs}
+use Rattle.records.specs.Record.{recordPairs}
 use Rattle.monitor.proofs.rows.show_row.Statement.{statement}
 use Rattle.monitor.proofs.rows.show_row.Tie as tie
 
 abbrev Inv-loop : tie.InvT-loop
-Inv-loop picture row columns at text₀ cell₀ text cell = (cell ≤ 132) × (length text ≡ 132)
+Inv-loop picture row columns at text₀ cell₀ text cell = (cell ≤ recordPairs) × (length text ≡ recordPairs)
 
 abbrev μ-loop : tie.MeasureT-loop
-μ-loop picture row columns at text₀ cell₀ text cell = 132 - cell
+μ-loop picture row columns at text₀ cell₀ text cell = recordPairs - cell
 
 mul-at : tie.Need-mul-at Inv-loop μ-loop
 mul-at c = search needs

@@ -2,14 +2,15 @@ use Prim.Native.Nat.{_-_, _≤_}
 use mathlib.Core.Path.{_≡_}
 use lib.ListN.{length}
 use borrow.Author.Needs.{needs}
+use Rattle.lent.specs.Lengths.{lineBytes}
 use Rattle.monitor.proofs.scans.show_dots.Statement.{statement}
 use Rattle.monitor.proofs.scans.show_dots.Tie as tie
 
 abbrev Inv-loop : tie.InvT-loop
-Inv-loop line dots text₀ dot₀ text dot = (dot ≤ 1188) × (length text ≡ 1188)
+Inv-loop line dots text₀ dot₀ text dot = (dot ≤ lineBytes) × (length text ≡ lineBytes)
 
 abbrev μ-loop : tie.MeasureT-loop
-μ-loop line dots text₀ dot₀ text dot = 1188 - dot
+μ-loop line dots text₀ dot₀ text dot = lineBytes - dot
 
 loop-holds : tie.Need-loop-holds Inv-loop μ-loop
 loop-holds c = search needs

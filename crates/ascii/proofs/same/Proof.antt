@@ -2,9 +2,9 @@ use Prim.Native.Nat.{_-_}
 use native.Mathlib.Omega.{arith}
 use lib.ListN.{length}
 use borrow.Author.Needs.{needs}
-use Rattle.commands.proofs.Alike.{Alike, alike-begins, alike-on, alike-fails, alike-ends, other-length}
-use Rattle.commands.proofs.words.same.Statement.{statement}
-use Rattle.commands.proofs.words.same.Tie as tie
+use Rattle.ascii.proofs.Alike.{Alike, alike-begins, alike-on, alike-fails, alike-ends, other-length}
+use Rattle.ascii.proofs.same.Statement.{statement}
+use Rattle.ascii.proofs.same.Tie as tie
 
 abbrev Inv-loop : tie.InvT-loop
 Inv-loop a b at₀ at = Alike a b at

@@ -1,14 +1,19 @@
--- Laws about the comparison of two words.
+-- Laws about the comparison of two words, and about a walk over a list.
 use Prim.Native.Nat.{ℕ, suc, _+_, _≤_, _<_}
 use mathlib.Core.Path.{_≡_, refl, sym, ap, _∙_}
 use mathlib.Core.List.{List, [], _∷_}
 use mathlib.Core.Bool.{true, false, and-false}
+use native.Mathlib.Numerals.{add-one}
 use native.Mathlib.Omega.{arith}
 use lib.ListN.{length, getD, drop, drop-of-length-le}
+use lib.Seq.{drop-cons}
 use lib.Dec.{eqb}
 use borrow.Author.Tests.{eq-eqb, ne-eqb}
-use Rattle.commands.specs.Words.{same}
-use Rattle.commands.proofs.Walks.{next}
+use Rattle.ascii.specs.Ascii.{same}
+
+-- what is left of a list is a byte and what is left after it
+pub next : (l : List ℕ) (at : ℕ) → at < length l → drop at l ≡ getD l at 0 ∷ drop (at + 1) l
+next l at under = rw (add-one at) (drop-cons l at 0 under)
 
 -- a walk over two words of one length that are the same so far
 pub record Alike (a b : List ℕ) (at : ℕ) : Type 0 where
