@@ -1,4 +1,4 @@
--- The definitions give what document 01 says, in every case of the table.
+-- The statement of specs/Worked.antt, by computation.
 use mathlib.Core.Path.{_≡_, refl}
 use mathlib.Core.List.{List, map, map-append}
 use Rattle.memories.specs.View8088.{within, lengths8088, seen8088}
@@ -18,13 +18,18 @@ use Rattle.dots.specs.Attributes.{shade}
 use Rattle.dots.specs.Cell.{glyphDots, twice, cellDots}
 use Rattle.scan_line.specs.Line.{pairDots, rowDots, showsNothing, lineOf}
 use Rattle.scan_line.specs.Call.{lengthsLine, onTube}
+use Rattle.ascii.specs.Ascii.{ascii}
+use Rattle.ascii.specs.Numbers.{decimal, reached, digit, hex}
+use Rattle.listing.specs.Listing.{heading, counted, rowAndStart, line, lineOf as rowLine, linesTo, refusedText, textOf, drawing, listRows}
 use Rattle.cases.specs.Said.{Said, Case, differ}
 use Rattle.cases.specs.Screens.{alikeFrom, alike, drawnFrom, rowsOf, drawnAll, memory, byteOfRow, startOfRow, countOfRow}
 use Rattle.cases.specs.Memories.{zeros, refusedBy, storedByZ80, storedBy8088}
 use Rattle.cases.specs.Ports.{shadow, nvm, written, writtenAll, none, recalls}
 use Rattle.cases.specs.Mends.{markedOf, markedFrom, marked, storedAt, mendedRow}
-use Rattle.cases.specs.Dots.{showing, rowOfKind, litDots, everyByte, ofCharacter, numbered, asNumber, scanShown, digits80, digits132, bits, litByBits, underDigits, printed}
-use Rattle.cases.specs.Table.{screens, stores, writes, mends, dots, table}
+use Rattle.cases.specs.Dots.{showing, rowOfKind, litDots, everyByte, ofCharacter, numbered, digits80, digits132, bits, litByBits, underDigits, printed}
+use Rattle.cases.specs.Lister.{listedOf}
+use Rattle.cases.specs.Table.{screens, stores, writes, mends, dots, prints, table}
+use Rattle.cases.specs.Worked.{Worked}
 
 abbrev gives : List Case → List (List Said)
 gives = map (λ (c : Case). c .gives)
@@ -49,9 +54,13 @@ unfolding byteAt capacity firstFF terminator link rowFrom next rowAt screenRead 
 mended-out = refl
 
 shown-out : gives dots ≡ says dots
-unfolding capacity inOrder recordIn glyphByte scanAddresses scanAddress glyphScan shade glyphDots twice cellDots pairDots rowDots showsNothing lineOf lengthsLine onTube showing rowOfKind litDots everyByte ofCharacter numbered asNumber scanShown digits80 digits132 bits litByBits underDigits printed dots
+unfolding capacity inOrder recordIn glyphByte scanAddresses scanAddress glyphScan shade glyphDots twice cellDots pairDots rowDots showsNothing lineOf lengthsLine onTube showing rowOfKind litDots everyByte ofCharacter numbered digits80 digits132 bits litByBits underDigits printed dots
 shown-out = refl
 
-pub worked : map (λ (c : Case). c .gives) table ≡ map (λ (c : Case). c .says) table
+printed-out : gives prints ≡ says prints
+unfolding byteAt capacity firstFF terminator link rowFrom next rowAt reads readsTo cellPairs fillPairs recordOf inOrder lengthsPicture heading counted rowAndStart line rowLine linesTo refusedText textOf drawing listRows ascii decimal reached digit hex listedOf prints
+printed-out = refl
+
+pub worked : Worked
 unfolding table
-worked = simp map-append (rw (drawn, stored, written-out, mended-out, shown-out))
+worked = simp map-append (rw (drawn, stored, written-out, mended-out, shown-out, printed-out))

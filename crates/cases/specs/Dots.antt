@@ -1,5 +1,5 @@
 -- P10, P11 and the character that 003 prints: scan lines of row 0, told by which of their first dots are lit.
-use Prim.Native.Nat.{ℕ, _+_, _*_, _^_}
+use Prim.Native.Nat.{ℕ, _*_, _^_}
 use mathlib.Core.List.{List, [], _∷_, _++_, map}
 use mathlib.Core.Bool.{Bool, false, cond}
 use lib.ListN.{take, set, replicate}
@@ -37,17 +37,8 @@ ofCharacter bytes = replicate (0x0E * 16) 0x00 ++ (bytes ++ replicate (0xF1 * 16
 unfoldable pub numbered : List ℕ
 numbered = ofCharacter (2 ∷ 3 ∷ 4 ∷ 5 ∷ 6 ∷ 7 ∷ 8 ∷ 9 ∷ 10 ∷ 0 ∷ 0 ∷ 0 ∷ 0 ∷ 0 ∷ 0 ∷ 1 ∷ [])
 
--- the number that dots shown twice make
-unfoldable pub asNumber : (dots : List ℕ) → (before : ℕ) → ℕ
-asNumber [] before = before
-asNumber (dot ∷ []) before = before
-asNumber (dot ∷ again ∷ dots) before = asNumber dots (2 * before + dot)
-
--- the scan of the glyph that a wide row shows
-unfoldable pub scanShown : (kind scan : ℕ) → ℕ
-scanShown kind scan = asNumber (litDots false kind numbered scan 16) 0
-
--- 003, section 2.1.6.7, "Character Generator Bit Positions": the digits over two cells, and at 132 columns a fill dot less
+-- 003, section 2.1.6.7, "Character Generator Bit Positions": the digits over two cells, and at 132 columns a fill dot
+-- less
 unfoldable pub digits80 : List ℕ
 digits80 = 7 ∷ 6 ∷ 5 ∷ 4 ∷ 3 ∷ 2 ∷ 1 ∷ 0 ∷ 0 ∷ 0 ∷ 7 ∷ 6 ∷ 5 ∷ 4 ∷ 3 ∷ 2 ∷ 1 ∷ 0 ∷ 0 ∷ 0 ∷ []
 
@@ -65,6 +56,7 @@ litByBits columns132 kind dots = map (λ (n : ℕ). Dots (litDots columns132 kin
 unfoldable pub underDigits : (digits : List ℕ) → List Said
 underDigits digits = map (λ (n : ℕ). Dots (map (λ (digit : ℕ). cond (eqb digit n) 1 0) digits)) bits
 
--- the two scans under the digits that have ten marks left in our copy, each read as one cell; the bytes are the first eight
+-- the two scans under the digits that have ten marks left in our copy, each read as one cell; the bytes are the first
+-- eight
 unfoldable pub printed : List ℕ
 printed = ofCharacter (0 ∷ 0 ∷ 0x77 ∷ 0 ∷ 0 ∷ 0xEF ∷ 0 ∷ 0 ∷ 0 ∷ 0 ∷ 0 ∷ 0 ∷ 0 ∷ 0 ∷ 0 ∷ 0 ∷ [])

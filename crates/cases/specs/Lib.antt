@@ -4,4 +4,6 @@ pub mod Memories
 pub mod Ports
 pub mod Mends
 pub mod Dots
+pub mod Lister
 pub mod Table
+pub mod Worked

@@ -15,7 +15,9 @@ use Rattle.cases.specs.Memories.{zeros}
 -- the rows of a number's bits, so many from `row` on
 unfoldable pub markedOf : (row more marks : ℕ) → List Said
 markedOf row zero marks = []
-markedOf row (suc more) marks = let later = markedOf (row + 1) more marks in cond (bitSet marks row) (Marked row ∷ later) later
+markedOf row (suc more) marks =
+    let later = markedOf (row + 1) more marks in
+    cond (bitSet marks row) (Marked row ∷ later) later
 
 -- the rows from `first` to `last`
 unfoldable pub markedFrom : (row more : ℕ) → List Said

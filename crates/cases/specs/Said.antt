@@ -19,6 +19,7 @@ pub data Said : Type 0 where
   Marked : (row : ℕ) → Said
   Dots : (lit : List ℕ) → Said
   GlyphScan : ℕ → Said
+  Prints : (text : List ℕ) → Said
 
 -- a case: what the definitions give, and what document 01 says
 pub record Case : Type 0 where

@@ -1,23 +1,25 @@
 -- Document 01, "Screens and ports worked out": the cases marked P.
+use Prim.Native.Nat.{_-_}
 use mathlib.Core.List.{List, [], _∷_, _++_}
 use mathlib.Core.Bool.{true, false}
 use lib.ListN.{replicate}
 use Rattle.lent.specs.Lengths.{screenBytes, attributeBytes}
 use Rattle.machine.specs.Power.{powerUp}
-use Rattle.chain.specs.Chain.{bottomHalf, topHalf, doubleWidth, normal}
-use Rattle.records.specs.Record.{tornCount, darkCount}
-use Rattle.cases.specs.Said.{Case, Private, Shared, Screen, Attribute, Refused, Interlaced, Recalls, Row, Start, Count, Reads, Dots, GlyphScan}
+use Rattle.glyphs.specs.Scans.{glyphScan}
+use Rattle.ascii.specs.Ascii.{ascii}
+use Rattle.cases.specs.Said.{Case, Private, Shared, Screen, Attribute, Refused, Interlaced, Recalls, Row, Start, Count, Reads, Dots, GlyphScan, Prints}
 use Rattle.cases.specs.Screens.{alike, drawnAll, startOfRow, countOfRow}
 use Rattle.cases.specs.Memories.{storedByZ80, storedBy8088}
 use Rattle.cases.specs.Ports.{writtenAll, recalls}
+use Rattle.cases.specs.Lister.{listedOf}
 use Rattle.cases.specs.Mends.{marked, mendedRow}
-use Rattle.cases.specs.Dots.{litDots, everyByte, scanShown, digits80, digits132, litByBits, underDigits, printed}
+use Rattle.cases.specs.Dots.{litDots, everyByte, numbered, digits80, digits132, litByBits, underDigits, printed}
 
 -- P1 to P6
 unfoldable pub screens : List Case
 screens =
-    -- P1: screen all FF, attribute all 00, 80 columns: row 0: start 0, kind 3, count 0; rows 1 to 23: start 4095, kind 0,
-    -- count 0; 72 read
+    -- P1: screen all FF, attribute all 00, 80 columns: row 0: start 0, kind 3, count 0; rows 1 to 23: start 4095, kind
+    -- 0, count 0; 72 read
     record {
       gives = drawnAll (replicate screenBytes 0xFF) (replicate attributeBytes 0x00);
       says = Reads 72 ∷ Row 0 0 3 0 ∷ alike 1 23 4095 0 0;
@@ -25,18 +27,18 @@ screens =
     -- P2: both all 00, 80 columns: row 0 torn, others dark; 81 read
     ∷ record {
       gives = drawnAll (replicate screenBytes 0x00) (replicate attributeBytes 0x00);
-      says = Reads 81 ∷ Row 0 0 3 tornCount ∷ alike 1 23 0 3 darkCount;
+      says = Reads 81 ∷ Row 0 0 3 255 ∷ alike 1 23 0 3 254;
     }
     -- P3: FF 50 01: next start 336
-    ∷ record { gives = startOfRow 1 (0xFF ∷ 0x50 ∷ 0x01 ∷ []) normal; says = Start 336 ∷ [] }
+    ∷ record { gives = startOfRow 1 (0xFF ∷ 0x50 ∷ 0x01 ∷ []) 3; says = Start 336 ∷ [] }
     -- P4: FF 50 F1: next start 336
-    ∷ record { gives = startOfRow 1 (0xFF ∷ 0x50 ∷ 0xF1 ∷ []) normal; says = Start 336 ∷ [] }
+    ∷ record { gives = startOfRow 1 (0xFF ∷ 0x50 ∷ 0xF1 ∷ []) 3; says = Start 336 ∷ [] }
     -- P5: normal, 80: first FF 80 or 81 bytes after the start: count 80; torn
-    ∷ record { gives = countOfRow 0 (replicate 80 0x41 ++ (0xFF ∷ [])) normal; says = Count 80 ∷ [] }
-    ∷ record { gives = countOfRow 0 (replicate 81 0x41 ++ (0xFF ∷ [])) normal; says = Count tornCount ∷ [] }
+    ∷ record { gives = countOfRow 0 (replicate 80 0x41 ++ (0xFF ∷ [])) 3; says = Count 80 ∷ [] }
+    ∷ record { gives = countOfRow 0 (replicate 81 0x41 ++ (0xFF ∷ [])) 3; says = Count 255 ∷ [] }
     -- P6: double width, 80: FF 40 or 41 after: count 40; torn. Row 1 starts at place 3
-    ∷ record { gives = countOfRow 1 (0xFF ∷ 3 ∷ 0 ∷ replicate 40 0x41 ++ (0xFF ∷ [])) doubleWidth; says = Count 40 ∷ [] }
-    ∷ record { gives = countOfRow 1 (0xFF ∷ 3 ∷ 0 ∷ replicate 41 0x41 ++ (0xFF ∷ [])) doubleWidth; says = Count tornCount ∷ [] }
+    ∷ record { gives = countOfRow 1 (0xFF ∷ 3 ∷ 0 ∷ replicate 40 0x41 ++ (0xFF ∷ [])) 2; says = Count 40 ∷ [] }
+    ∷ record { gives = countOfRow 1 (0xFF ∷ 3 ∷ 0 ∷ replicate 41 0x41 ++ (0xFF ∷ [])) 2; says = Count 255 ∷ [] }
     ∷ []
 
 -- P7, P8
@@ -73,46 +75,75 @@ writes =
 unfoldable pub mends : List Case
 mends =
     -- P13: screen FF then 00s, attribute all 03; store 01 at place 2: row 1 torn at 256; marks rows 1 to 23, not 0
-    record { gives = mendedRow 1 (0xFF ∷ []) 0x03 2 0x01; says = Row 1 256 3 tornCount ∷ marked 1 23 } ∷ []
+    record { gives = mendedRow 1 (0xFF ∷ []) 0x03 2 0x01; says = Row 1 256 3 255 ∷ marked 1 23 } ∷ []
 
 -- P10, P11, and 003, section 2.1.6.7
 unfoldable pub dots : List Case
 dots =
     -- P10: glyph byte A5: 1010010111 at 80; 101001011 at 132
     record {
-      gives = Dots (litDots false normal (everyByte 0xA5) 1 10) ∷ [];
+      gives = Dots (litDots false 3 (everyByte 0xA5) 1 10) ∷ [];
       says = Dots (1 ∷ 0 ∷ 1 ∷ 0 ∷ 0 ∷ 1 ∷ 0 ∷ 1 ∷ 1 ∷ 1 ∷ []) ∷ [];
     }
     ∷ record {
-      gives = Dots (litDots true normal (everyByte 0xA5) 1 9) ∷ [];
+      gives = Dots (litDots true 3 (everyByte 0xA5) 1 9) ∷ [];
       says = Dots (1 ∷ 0 ∷ 1 ∷ 0 ∷ 0 ∷ 1 ∷ 0 ∷ 1 ∷ 1 ∷ []) ∷ [];
     }
-    -- P11: top half, scan 10; bottom, scans 1 and 7: glyph scans 5; 6 and 9
-    ∷ record { gives = GlyphScan (scanShown topHalf 10) ∷ []; says = GlyphScan 5 ∷ [] }
-    ∷ record { gives = GlyphScan (scanShown bottomHalf 1) ∷ []; says = GlyphScan 6 ∷ [] }
-    ∷ record { gives = GlyphScan (scanShown bottomHalf 7) ∷ []; says = GlyphScan 9 ∷ [] }
+    -- P11: top half, scan 10; bottom, scans 1 and 7: glyph scans 5; 6 and 9. The glyph byte of each scan is the scan's
+    -- number, so the dots are those of 05, 06 and 09, each twice
+    ∷ record {
+      gives = GlyphScan (glyphScan 1 10) ∷ Dots (litDots false 1 numbered 10 16) ∷ [];
+      says = GlyphScan 5 ∷ Dots (0 ∷ 0 ∷ 0 ∷ 0 ∷ 0 ∷ 0 ∷ 0 ∷ 0 ∷ 0 ∷ 0 ∷ 1 ∷ 1 ∷ 0 ∷ 0 ∷ 1 ∷ 1 ∷ []) ∷ [];
+    }
+    ∷ record {
+      gives = GlyphScan (glyphScan 0 1) ∷ Dots (litDots false 0 numbered 1 16) ∷ [];
+      says = GlyphScan 6 ∷ Dots (0 ∷ 0 ∷ 0 ∷ 0 ∷ 0 ∷ 0 ∷ 0 ∷ 0 ∷ 0 ∷ 0 ∷ 1 ∷ 1 ∷ 1 ∷ 1 ∷ 0 ∷ 0 ∷ []) ∷ [];
+    }
+    ∷ record {
+      gives = GlyphScan (glyphScan 0 7) ∷ Dots (litDots false 0 numbered 7 16) ∷ [];
+      says = GlyphScan 9 ∷ Dots (0 ∷ 0 ∷ 0 ∷ 0 ∷ 0 ∷ 0 ∷ 0 ∷ 0 ∷ 1 ∷ 1 ∷ 0 ∷ 0 ∷ 0 ∷ 0 ∷ 1 ∷ 1 ∷ []) ∷ [];
+    }
     -- 003: 76543210007654321000, bit by bit
-    ∷ record { gives = litByBits false normal 20; says = underDigits digits80 }
-    ∷ record { gives = litByBits true normal 18; says = underDigits digits132 }
+    ∷ record { gives = litByBits false 3 20; says = underDigits digits80 }
+    ∷ record { gives = litByBits true 3 18; says = underDigits digits132 }
     -- 003: scan 4, address 2: -###-#####, read as one cell
     ∷ record {
-      gives = Dots (litDots false normal printed 4 10) ∷ [];
+      gives = Dots (litDots false 3 printed 4 10) ∷ [];
       says = Dots (0 ∷ 1 ∷ 1 ∷ 1 ∷ 0 ∷ 1 ∷ 1 ∷ 1 ∷ 1 ∷ 1 ∷ []) ∷ [];
     }
     ∷ record {
-      gives = Dots (litDots true normal printed 4 9) ∷ [];
+      gives = Dots (litDots true 3 printed 4 9) ∷ [];
       says = Dots (0 ∷ 1 ∷ 1 ∷ 1 ∷ 0 ∷ 1 ∷ 1 ∷ 1 ∷ 1 ∷ []) ∷ [];
     }
     -- 003: scan 7, address 5: ###-######, read as one cell
     ∷ record {
-      gives = Dots (litDots false normal printed 7 10) ∷ [];
+      gives = Dots (litDots false 3 printed 7 10) ∷ [];
       says = Dots (1 ∷ 1 ∷ 1 ∷ 0 ∷ 1 ∷ 1 ∷ 1 ∷ 1 ∷ 1 ∷ 1 ∷ []) ∷ [];
     }
     ∷ record {
-      gives = Dots (litDots true normal printed 7 9) ∷ [];
+      gives = Dots (litDots true 3 printed 7 9) ∷ [];
       says = Dots (1 ∷ 1 ∷ 1 ∷ 0 ∷ 1 ∷ 1 ∷ 1 ∷ 1 ∷ 1 ∷ []) ∷ [];
     }
     ∷ []
 
+-- the row lister, printed whole
+unfoldable pub prints : List Case
+prints =
+    -- "For 8,192 zero bytes it prints, whole"
+    record {
+      gives = listedOf (replicate screenBytes 0x00) (replicate attributeBytes 0x00) 0;
+      says = Prints (ascii "columns 80 reads 81" ++ (0x0A ∷ ascii "0 0000 3 torn" ++ (0x0A ∷ []))) ∷ [];
+    }
+    -- "Input of another length prints `refused 1`": a byte too many, and one too few
+    ∷ record {
+      gives = listedOf (replicate screenBytes 0x00) (replicate attributeBytes 0x00) 1;
+      says = Prints (ascii "refused 1" ++ (0x0A ∷ [])) ∷ [];
+    }
+    ∷ record {
+      gives = listedOf (replicate screenBytes 0x00) (replicate (attributeBytes - 1) 0x00) 0;
+      says = Prints (ascii "refused 1" ++ (0x0A ∷ [])) ∷ [];
+    }
+    ∷ []
+
 unfoldable pub table : List Case
-table = screens ++ stores ++ writes ++ mends ++ dots
+table = screens ++ stores ++ writes ++ mends ++ dots ++ prints
