@@ -14,6 +14,7 @@ static const size_t listed[BUFFERS] = {
     RAINBOW_SHARED_BYTES, RAINBOW_PRIVATE_BYTES, RAINBOW_SCREEN_BYTES,  RAINBOW_ATTRIBUTE_BYTES, RAINBOW_GLYPH_BYTES,
     RAINBOW_NVM_BYTES,    RAINBOW_SHADOW_BYTES,  RAINBOW_PICTURE_BYTES, RAINBOW_PICTURE_BYTES,   RAINBOW_LINE_BYTES};
 enum { AT_END, AT_START, ON_HEAP, WAYS };
+enum { MOST_READS = 3240 }; /* of a drawing, at 132 columns */
 
 static uint8_t *buffers[WAYS][BUFFERS];
 static uint8_t *fence; /* a page that may not be touched */
@@ -96,7 +97,7 @@ static uint8_t draw(rainbow_machine machine, uint8_t **b, int into)
 {
     rainbow_drawn drawn = rainbow_draw(machine, b[SCREEN], listed[SCREEN], b[ATTRIBUTE], listed[ATTRIBUTE], b[into],
                                        listed[into]);
-    if (drawn.reads > 3240)
+    if (drawn.reads > MOST_READS)
         fail("too many bytes read");
     return drawn.refusal;
 }
@@ -117,8 +118,8 @@ static void call(rainbow_machine machine, uint8_t **b)
     case 3: rainbow_read_shadow(b[SHADOW], listed[SHADOW], place); break;
     case 4: rainbow_write_shadow(b[SHADOW], listed[SHADOW], place, any()); break;
     case 5:
-        rainbow_scan_line(machine, b[PICTURE], listed[PICTURE], b[GLYPHS], listed[GLYPHS], below(26), below(12),
-                          b[LINE], listed[LINE]);
+        rainbow_scan_line(machine, b[PICTURE], listed[PICTURE], b[GLYPHS], listed[GLYPHS],
+                          below(RAINBOW_ROWS + 2), below(RAINBOW_LAST_SCAN + 2), b[LINE], listed[LINE]);
         break;
     default:
         rainbow_store_with_picture(machine, b[SHARED], listed[SHARED], b[SCREEN], listed[SCREEN], b[ATTRIBUTE],

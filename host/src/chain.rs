@@ -7,6 +7,27 @@ pub const ROWS: usize = 24;
 pub const RECORD: usize = 268;
 pub const PICTURE: usize = ROWS * RECORD;
 
+/// In a record: the kind, the count, and the pairs of character and attribute.
+pub const KIND_AT: usize = 2;
+pub const COUNT_AT: usize = 3;
+pub const PAIRS_AT: usize = 4;
+pub const PAIRS: usize = 132;
+
+/// "Count is the cells before FF, 255 if torn, 254 if dark."
+pub const TORN: u8 = 255;
+pub const DARK: u8 = 254;
+
+/// The byte that ends a row's cells.
+const FF: u8 = 0xFF;
+
+/// How many cells a line of a kind may have. Bits 1 and 0 of the kind say whether it is normal or wide.
+pub fn capacity(columns: usize, kind: u8) -> usize {
+    match kind & 3 {
+        3 => columns,
+        _ => columns / 2,
+    }
+}
+
 /// A memory of a walk, which lists the places that are read of it.
 struct Watched<'a> {
     bytes: &'a [u8],
@@ -49,7 +70,7 @@ impl Row {
         Self {
             start: 0,
             kind: 3,
-            count: 254,
+            count: DARK,
             cells: Vec::new(),
             places: Places::default(),
         }
@@ -63,7 +84,7 @@ impl Row {
             self.count,
         ];
         let fill = std::iter::repeat((0x20, 0x0E));
-        for (character, attribute) in self.cells.iter().copied().chain(fill).take(132) {
+        for (character, attribute) in self.cells.iter().copied().chain(fill).take(PAIRS) {
             bytes.extend([character, attribute & 15]);
         }
         bytes
@@ -78,15 +99,12 @@ fn row(
     (start, kind): (usize, u8),
 ) -> (Row, Option<(usize, u8)>) {
     let (screen, attribute) = (Watched::new(screen), Watched::new(attribute));
-    let capacity = match kind & 3 {
-        3 => columns,
-        _ => columns / 2,
-    };
+    let capacity = capacity(columns, kind);
     let mut cells = Vec::new();
     let mut place = start;
     let (count, next) = loop {
         let character = screen.read(place);
-        if character == 0xFF {
+        if character == FF {
             let low = screen.read(place + 1);
             let high = screen.read(place + 2) & 0x0F;
             let next = usize::from(u16::from_le_bytes([low, high]));
@@ -94,7 +112,7 @@ fn row(
             break (cells.len() as u8, Some((next, kind)));
         }
         if cells.len() == capacity {
-            break (255, None);
+            break (TORN, None);
         }
         cells.push((character, attribute.read(place)));
         place += 1;
@@ -161,14 +179,228 @@ pub fn listing(input: &[u8]) -> String {
             let mut text = format!("columns 80 reads {}\n", drawn.reads);
             for (row, record) in drawn.picture.chunks(RECORD).enumerate() {
                 let start = u16::from_be_bytes([record[0], record[1]]);
-                let count = match record[3] {
-                    254 => continue,
-                    255 => "torn".to_string(),
+                let count = match record[COUNT_AT] {
+                    DARK => continue,
+                    TORN => "torn".to_string(),
                     count => count.to_string(),
                 };
-                text += &format!("{row} {start:04X} {} {count}\n", record[2]);
+                text += &format!("{row} {start:04X} {} {count}\n", record[KIND_AT]);
             }
             text
         }
+    }
+}
+
+#[cfg(test)]
+mod tests {
+    use super::*;
+
+    /// A memory of one byte but for those laid in it, each run from a place on.
+    fn memory(byte: u8, laid: &[(usize, &[u8])]) -> Vec<u8> {
+        let mut memory = vec![byte; PLACES];
+        for (place, bytes) in laid {
+            memory[*place..][..bytes.len()].copy_from_slice(bytes);
+        }
+        memory
+    }
+
+    fn drawn(screen: &[u8], attribute: &[u8], columns: usize) -> Drawn {
+        draw(screen, attribute, columns).ok().unwrap()
+    }
+
+    fn record(drawn: &Drawn, row: usize) -> &[u8] {
+        &drawn.picture[row * RECORD..][..RECORD]
+    }
+
+    /// A record's start, kind and count.
+    fn head(drawn: &Drawn, row: usize) -> (usize, u8, u8) {
+        let record = record(drawn, row);
+        let start = usize::from(record[0]) * 256 + usize::from(record[1]);
+        (start, record[KIND_AT], record[COUNT_AT])
+    }
+
+    /// "screen all FF, attribute all 00, 80 columns: row 0: start 0, kind 3, count 0; rows 1 to 23: start 4095,
+    /// kind 0, count 0; 72 read". "Stopping at place 4095: P1 needs the wrap."
+    #[test]
+    fn p1_all_ff() {
+        let drawn = drawn(&memory(0xFF, &[]), &memory(0x00, &[]), 80);
+        assert_eq!(head(&drawn, 0), (0, 3, 0));
+        for row in 1..ROWS {
+            assert_eq!(head(&drawn, row), (4095, 0, 0));
+        }
+        assert_eq!(drawn.reads, 72);
+    }
+
+    /// "both all 00, 80 columns: row 0 torn, others dark; 81 read". "It shows its capacity cells, and all later rows
+    /// are dark." "A dark row has start 0, kind 3 and only such pairs", which are 20, 0E.
+    #[test]
+    fn p2_all_00() {
+        let drawn = drawn(&memory(0x00, &[]), &memory(0x00, &[]), 80);
+        assert_eq!(head(&drawn, 0), (0, 3, 255));
+        assert_eq!(record(&drawn, 0)[PAIRS_AT..][..160], [0; 160]);
+        assert_eq!(record(&drawn, 0)[PAIRS_AT + 160..], [0x20, 0x0E].repeat(52));
+        for row in 1..ROWS {
+            assert_eq!(record(&drawn, row)[..PAIRS_AT], [0, 0, 3, 254]);
+            assert_eq!(record(&drawn, row)[PAIRS_AT..], [0x20, 0x0E].repeat(132));
+        }
+        assert_eq!(drawn.reads, 81);
+    }
+
+    /// "FF 50 01: next start 336". "Taking the link high byte first: P3 would give place 1."
+    #[test]
+    fn p3_low_byte_first() {
+        let screen = memory(0x00, &[(0, &[0xFF, 0x50, 0x01])]);
+        assert_eq!(head(&drawn(&screen, &memory(3, &[]), 80), 1).0, 336);
+    }
+
+    /// "FF 50 F1: next start 336". "the high byte's top four bits play no part"
+    #[test]
+    fn p4_top_four_bits() {
+        let screen = memory(0x00, &[(0, &[0xFF, 0x50, 0xF1])]);
+        assert_eq!(head(&drawn(&screen, &memory(3, &[]), 80), 1).0, 336);
+    }
+
+    /// "normal, 80: first FF 80 or 81 bytes after the start: count 80; torn"
+    #[test]
+    fn p5_normal_capacity() {
+        for (after, count) in [(79, 79), (80, 80), (81, 255)] {
+            let screen = memory(0x41, &[(after, &[0xFF, 0x00, 0x00])]);
+            assert_eq!(head(&drawn(&screen, &memory(3, &[]), 80), 0), (0, 3, count));
+        }
+    }
+
+    /// "double width, 80: FF 40 or 41 after: count 40; torn"
+    #[test]
+    fn p6_wide_capacity() {
+        for (after, count) in [(39, 39), (40, 40), (41, 255)] {
+            let laid: [(usize, &[u8]); 2] = [(0, &[0xFF, 0x00, 0x01]), (256 + after, &[0xFF])];
+            let drawn = drawn(&memory(0x41, &laid), &memory(2, &[]), 80);
+            assert_eq!(head(&drawn, 1), (256, 2, count));
+        }
+    }
+
+    /// "The capacity of a line is the column setting, 80 or 132, and half of it for the three wide kinds." "Bits 1,0
+    /// read: 00 bottom half of double height, 01 top half, 10 double width, 11 normal."
+    #[test]
+    fn capacities() {
+        let of = |columns| -> Vec<usize> { (0..8).map(|kind| capacity(columns, kind)).collect() };
+        assert_eq!(of(80), [40, 40, 40, 80, 40, 40, 40, 80]);
+        assert_eq!(of(132), [66, 66, 66, 132, 66, 66, 66, 132]);
+    }
+
+    /// "The attribute byte beside the low link byte gives the kind of the row pointed to, its low three bits".
+    /// "Giving a line's kind to the row that carries it, not the one pointed to."
+    #[test]
+    fn kind_of_the_row_pointed_to() {
+        let screen = memory(0x00, &[(0, &[0xFF, 0x00, 0x01])]);
+        let attribute = memory(0x00, &[(0, &[0x01, 0xFD, 0x02])]);
+        let drawn = drawn(&screen, &attribute, 80);
+        assert_eq!(head(&drawn, 0).1, 3);
+        assert_eq!(head(&drawn, 1).1, 5);
+    }
+
+    /// "There are always 24 rows. A chain that loops shows rows again."
+    #[test]
+    fn a_loop_shows_rows_again() {
+        let laid: [(usize, &[u8]); 2] = [
+            (0, &[0x41, 0xFF, 0x00, 0x01]),
+            (256, &[0x42, 0x43, 0xFF, 0x00, 0x00]),
+        ];
+        let drawn = drawn(&memory(0x00, &laid), &memory(3, &[]), 80);
+        assert_eq!(drawn.picture.len(), 24 * 268);
+        for row in 0..ROWS {
+            let shown = if row % 2 == 0 { (0, 3, 1) } else { (256, 3, 2) };
+            assert_eq!(head(&drawn, row), shown);
+        }
+    }
+
+    /// "all places are taken modulo 4,096": cells at 4094 and 4095, FF at 0, the link at 1 and 2.
+    #[test]
+    fn cells_go_on_at_place_0() {
+        let laid: [(usize, &[u8]); 2] = [(0, &[0xFF, 0xFE, 0x0F]), (4094, &[0x41, 0x42])];
+        let drawn = drawn(&memory(0x00, &laid), &memory(3, &[]), 80);
+        assert_eq!(head(&drawn, 0), (0, 3, 0));
+        assert_eq!(head(&drawn, 1), (4094, 3, 2));
+        assert_eq!(record(&drawn, 1)[PAIRS_AT..][..4], [0x41, 3, 0x42, 3]);
+        assert_eq!(head(&drawn, 2), (4094, 3, 2));
+    }
+
+    /// "start (two bytes, high byte first, the house habit), kind 0 to 7, count, then 132 pairs of character and
+    /// attribute modulo 16." "Pairs after the last cell are 20, 0E."
+    #[test]
+    fn a_record() {
+        let screen = memory(
+            0x00,
+            &[(0, &[0xFF, 0x50, 0x01]), (336, &[0x41, 0x42, 0xFF])],
+        );
+        let attribute = memory(0x07, &[(336, &[0x1A, 0xFB])]);
+        let drawn = drawn(&screen, &attribute, 80);
+        let begins = [0x01, 0x50, 7, 2, 0x41, 0x0A, 0x42, 0x0B, 0x20, 0x0E];
+        assert_eq!(record(&drawn, 1)[..10], begins);
+        assert_eq!(record(&drawn, 1)[8..], [0x20, 0x0E].repeat(130));
+    }
+
+    /// "A row with n cells reads n + 3 bytes of screen memory; a torn one capacity + 1; a dark one none."
+    #[test]
+    fn bytes_read() {
+        let screen = memory(0x00, &[(5, &[0xFF, 0x00, 0x01])]);
+        assert_eq!(drawn(&screen, &memory(3, &[]), 132).reads, 5 + 3 + 133);
+        assert_eq!(drawn(&screen, &memory(2, &[]), 132).reads, 5 + 3 + 67);
+    }
+
+    /// "at most 3,240 at 132 columns and 1,992 at 80": rows of as many cells as may be.
+    #[test]
+    fn most_bytes_read() {
+        for (columns, most) in [(132, 3240), (80, 1992)] {
+            let screen = memory(0x41, &[(columns, &[0xFF, 0x00, 0x00])]);
+            assert_eq!(drawn(&screen, &memory(3, &[]), columns).reads, most);
+        }
+    }
+
+    /// "A row also reads the attribute byte beside each of its cells and, unless torn, the one beside its low link
+    /// byte."
+    #[test]
+    fn places_read() {
+        let screen = memory(0x00, &[(2, &[0xFF, 0x00, 0x01])]);
+        let rows = read_by_rows(&screen, &memory(3, &[]), 80).ok().unwrap();
+        assert_eq!(rows[0].screen, [0, 1, 2, 3, 4]);
+        assert_eq!(rows[0].attribute, [0, 1, 3]);
+        let torn: Vec<usize> = (256..=336).collect();
+        assert_eq!(rows[1].screen, torn);
+        assert_eq!(rows[1].attribute, torn[..80]);
+        assert!(rows[2].screen.is_empty() && rows[2].attribute.is_empty());
+    }
+
+    /// "1: a lent buffer's length differs from the list"
+    #[test]
+    fn other_lengths_are_refused() {
+        for (screen, attribute) in [(0, 4096), (4095, 4096), (4096, 4097), (4096, 0)] {
+            let (screen, attribute) = (vec![0; screen], vec![0; attribute]);
+            assert_eq!(draw(&screen, &attribute, 80).err(), Some(1));
+            assert_eq!(read_by_rows(&screen, &attribute, 80).err(), Some(1));
+        }
+    }
+
+    /// "For 8,192 zero bytes it prints, whole:" two lines. "Input of another length prints `refused 1`."
+    #[test]
+    fn lister_of_zero_bytes() {
+        assert_eq!(listing(&[0; 8192]), "columns 80 reads 81\n0 0000 3 torn\n");
+        for length in [0, 4096, 8191, 8193] {
+            assert_eq!(listing(&vec![0; length]), "refused 1\n");
+        }
+    }
+
+    /// "Other rows print alike (row, start in four capital hex digits, kind, count in decimal), dark ones not at all."
+    #[test]
+    fn lister_of_rows() {
+        let screen = memory(
+            0x41,
+            &[(10, &[0xFF, 0xBC, 0x0A]), (0xABC, &[0xFF, 0x00, 0x0C])],
+        );
+        let attribute = memory(0x06, &[]);
+        assert_eq!(
+            listing(&[screen, attribute].concat()),
+            "columns 80 reads 57\n0 0000 3 10\n1 0ABC 6 0\n2 0C00 6 torn\n"
+        );
     }
 }

@@ -1,12 +1,13 @@
 //! Document 01, "Dots": the part of the glyph table that is a code's, a scan line, and the picture of the
 //! whole tube.
-use crate::chain::{draw, PICTURE, RECORD, ROWS};
+use crate::chain::{draw, COUNT_AT, DARK, KIND_AT, PAIRS_AT, PICTURE, RECORD, ROWS};
 use crate::machine::Machine;
 use crate::Answer;
 
 pub const GLYPHS: usize = 4096;
 pub const LINE: usize = 1188;
 pub const SCANS: usize = 10;
+pub const UNDERLINE_SCAN: usize = 9;
 
 /// The sixteen scan bytes of a code, in the order of their addresses.
 pub fn part(table: &[u8], code: u8) -> Answer<&[u8]> {
@@ -43,24 +44,25 @@ fn cell_dots(machine: &Machine) -> usize {
 }
 
 /// How many dots a line has.
-fn line_dots(machine: &Machine) -> usize {
+pub fn line_dots(machine: &Machine) -> usize {
     usize::from(machine.columns) * cell_dots(machine)
 }
 
 /// The dot at x in the line of a record that is not dark. A wide kind has reached only half as far into
 /// its cells. Of the kind only bits 1 and 0 matter here, of an attribute only its low four.
 fn dot(machine: &Machine, record: &[u8], table: &[u8], scan: usize, x: usize) -> u8 {
-    let kind = record[2];
+    let kind = record[KIND_AT];
     let across = if kind & 3 == 3 { x } else { x / 2 };
     let (cell, dot) = (across / cell_dots(machine), across % cell_dots(machine));
-    let (code, attribute) = (record[4 + 2 * cell], record[5 + 2 * cell]);
+    let pair = &record[PAIRS_AT + 2 * cell..][..2];
+    let (code, attribute) = (pair[0], pair[1]);
     let has = |bit: u8| attribute >> bit & 1 == 1;
     let (reverse, bold, blink, underline) = (has(0), !has(1), !has(2), !has(3));
 
     let scan = glyph_scan(kind, scan);
     let glyph = table[usize::from(code) * 16 + address(scan)];
     let drawn = glyph >> (7 - dot.min(7)) & 1 == 1;
-    let lit = (drawn || underline && scan == 9) ^ reverse ^ machine.reverse;
+    let lit = (drawn || underline && scan == UNDERLINE_SCAN) ^ reverse ^ machine.reverse;
     match lit {
         true => 2 + u8::from(bold) - u8::from(blink && machine.blink),
         false => 0,
@@ -83,7 +85,7 @@ pub fn scan_line(
         return Err(5);
     }
     let record = &picture[row * RECORD..][..RECORD];
-    let nothing = machine.blanked() || machine.graphics() || record[3] == 254;
+    let nothing = machine.blanked() || machine.graphics() || record[COUNT_AT] == DARK;
     for (x, byte) in line.iter_mut().enumerate() {
         *byte = if nothing || x >= line_dots(machine) {
             0
@@ -116,6 +118,7 @@ pub fn tube(machine: &Machine, screen: &[u8], attribute: &[u8], table: &[u8]) ->
 #[cfg(test)]
 mod tests {
     use super::*;
+    use crate::chain::{PAIRS, PLACES};
 
     const PLAIN: u8 = 0x0E;
 
@@ -185,7 +188,7 @@ mod tests {
         let underlined = picture(3, 0x06);
         for scan in 1..=10 {
             let line = line(&machine(80), &underlined, &table(0x00), scan);
-            let dots = if scan == 9 {
+            let dots = if scan == UNDERLINE_SCAN {
                 "222222222200"
             } else {
                 "000000000000"
@@ -222,7 +225,7 @@ mod tests {
         assert_eq!(first(&bright, 12), "200000000022");
         assert_eq!(bright[..800].iter().filter(|dot| **dot == 2).count(), 791);
         assert_eq!(bright[800..], [0; LINE - 800]);
-        shown[3] = 254;
+        shown[COUNT_AT] = DARK;
         assert_eq!(line(&machine, &shown, &table(0x80), 5), [0; LINE]);
     }
 
@@ -233,7 +236,7 @@ mod tests {
             assert_eq!(first(&line, 20), "22002200002200222200");
         }
         let mut full = picture(2, PLAIN);
-        full[4..RECORD].copy_from_slice(&[0x41, PLAIN].repeat(132));
+        full[PAIRS_AT..RECORD].copy_from_slice(&[0x41, PLAIN].repeat(PAIRS));
         assert_eq!(line(&machine(132), &full, &table(0xFF), 5), [2; LINE]);
     }
 
@@ -251,12 +254,12 @@ mod tests {
     #[test]
     fn refusals_change_nothing() {
         let cases = [
-            (PICTURE - 1, GLYPHS, LINE, 24, 0, 1),
+            (PICTURE - 1, GLYPHS, LINE, ROWS, 0, 1),
             (PICTURE, GLYPHS + 1, LINE, 0, 1, 1),
             (PICTURE, GLYPHS, LINE - 1, 0, 1, 1),
-            (PICTURE, GLYPHS, LINE, 24, 1, 5),
+            (PICTURE, GLYPHS, LINE, ROWS, 1, 5),
             (PICTURE, GLYPHS, LINE, 0, 0, 5),
-            (PICTURE, GLYPHS, LINE, 23, 11, 5),
+            (PICTURE, GLYPHS, LINE, ROWS - 1, SCANS + 1, 5),
         ];
         for (picture, table, length, row, scan, number) in cases {
             let (picture, table) = (vec![0; picture], vec![0; table]);
@@ -270,7 +273,12 @@ mod tests {
 
     #[test]
     fn a_tube_has_every_line_twice() {
-        let pgm = tube(&machine(132), &[0; 4096], &[0; 4096], &vec![0x80; GLYPHS]);
+        let pgm = tube(
+            &machine(132),
+            &[0; PLACES],
+            &[0; PLACES],
+            &vec![0x80; GLYPHS],
+        );
         let head = b"P5\n1188 480\n3\n";
         assert_eq!(&pgm[..head.len()], head);
         assert_eq!(pgm.len(), head.len() + 1188 * 480);

@@ -1,5 +1,5 @@
 //! Memories that are hard to walk, and programs that are given them.
-use crate::chain::PLACES;
+use crate::chain::{capacity, PLACES, ROWS};
 use std::io::{Read, Write};
 use std::process::{Command, Stdio};
 
@@ -40,8 +40,8 @@ fn strewn(chance: &mut Chance, every: usize, under: usize) -> Vec<u8> {
 /// its capacity or beside it, and goes on at a chosen place, with any bits in the link's top four.
 fn laid(chance: &mut Chance, screen: &mut [u8], attribute: &mut [u8]) {
     let (mut start, mut kind) = (0, 3);
-    for _ in 0..26 {
-        let capacity = if kind % 4 == 3 { 80 } else { 40 };
+    for _ in 0..ROWS + 2 {
+        let capacity = capacity(80, kind);
         let cells = match chance.below(8) {
             0 => 0,
             1 => chance.below(capacity),
@@ -62,11 +62,11 @@ fn laid(chance: &mut Chance, screen: &mut [u8], attribute: &mut [u8]) {
             3 => end + 3,
             _ => chance.below(PLACES),
         } % PLACES;
-        kind = chance.below(8);
+        kind = chance.below(8) as u8;
         screen[end % PLACES] = 0xFF;
         screen[(end + 1) % PLACES] = next as u8;
         screen[(end + 2) % PLACES] = (next >> 8) as u8 | (chance.byte() & 0xF0);
-        attribute[(end + 1) % PLACES] = kind as u8 | (chance.byte() & 0xF8);
+        attribute[(end + 1) % PLACES] = kind | (chance.byte() & 0xF8);
         start = next;
     }
 }

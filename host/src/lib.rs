@@ -2,6 +2,7 @@
 //! that the programs of the gate must write, so that the proved code is held by something beside
 //! its own definitions.
 pub mod chain;
+pub mod docs;
 pub mod dots;
 pub mod hard;
 #[cfg(feature = "linked")]
@@ -18,7 +19,10 @@ pub mod scripts;
 pub mod trial;
 pub mod tube_sample;
 
-/// A number of refusal, 1 to 6, or the accepted value.
+/// "Numbers of refusal": they are 1 to this.
+pub const REFUSALS: usize = 6;
+
+/// A number of refusal or the accepted value.
 pub type Answer<T> = Result<T, u8>;
 
 /// The number that the library gives for an answer.

@@ -81,3 +81,147 @@ pub fn shadow_write(shadow: &mut [u8], place: usize, value: u8) -> Answer<()> {
         .map(|byte| *byte = value & 15)
         .ok_or(5)
 }
+
+#[cfg(test)]
+mod tests {
+    use super::*;
+
+    /// The first place of each memory, and the last, hold bytes of their own.
+    fn view() -> View8088 {
+        let mut view = View8088::new(SHARED, SCREEN, ATTRIBUTE);
+        (view.shared[0], view.shared[SHARED - 1]) = (0x11, 0x12);
+        (view.screen[0], view.screen[SCREEN - 1]) = (0x21, 0x22);
+        (view.attribute[0], view.attribute[ATTRIBUTE - 1]) = (0x31, 0x32);
+        view
+    }
+
+    /// The places at which two memories differ.
+    fn changed(before: &[u8], after: &[u8]) -> Vec<usize> {
+        let places = 0..before.len();
+        places
+            .filter(|place| before[*place] != after[*place])
+            .collect()
+    }
+
+    /// "The 8088 sees shared at 00000 to 0FFFF, screen at EE000 to EEFFF, attribute at EF000 to EFFFF". "8088 at EE000,
+    /// EFFFF; EDFFF, F0000, 10000: screen 0, attribute 4095; refused 2"
+    #[test]
+    fn p8_what_the_8088_reads() {
+        for (address, byte) in [
+            (0x00000, 0x11),
+            (0x0FFFF, 0x12),
+            (0xEE000, 0x21),
+            (0xEEFFF, 0x22),
+            (0xEF000, 0x31),
+            (0xEFFFF, 0x32),
+        ] {
+            assert_eq!(view().read(address), Ok(byte), "{address:X}");
+        }
+        for address in [0xEDFFF, 0xF0000, 0x10000, 0x1EE000, 0xFFFFFFFF] {
+            assert_eq!(view().read(address), Err(2), "{address:X}");
+        }
+    }
+
+    /// A store "changes the one byte".
+    #[test]
+    fn a_store_by_the_8088_changes_one_byte() {
+        for (address, shared, screen, attribute) in [
+            (0x07FFF, vec![0x7FFF], vec![], vec![]),
+            (0xEE001, vec![], vec![1], vec![]),
+            (0xEFFFE, vec![], vec![], vec![4094]),
+        ] {
+            let (before, mut after) = (view(), view());
+            assert_eq!(after.store(address, 0x77), Ok(()));
+            assert_eq!(after.read(address), Ok(0x77));
+            assert_eq!(changed(&before.shared, &after.shared), shared);
+            assert_eq!(changed(&before.screen, &after.screen), screen);
+            assert_eq!(changed(&before.attribute, &after.attribute), attribute);
+        }
+    }
+
+    /// "1: a lent buffer's length differs from the list". "The lowest number wins."
+    #[test]
+    fn the_8088s_lengths() {
+        for (shared, screen, attribute) in [
+            (SHARED - 1, SCREEN, ATTRIBUTE),
+            (SHARED, SCREEN + 1, ATTRIBUTE),
+            (SHARED, SCREEN, 0),
+        ] {
+            for address in [0x00000, 0xEE000, 0xF0000] {
+                let mut view = View8088::new(shared, screen, attribute);
+                assert_eq!(view.read(address), Err(1));
+                assert_eq!(view.store(address, 0x77), Err(1));
+                assert!(view.shared.iter().all(|byte| *byte == 0));
+                assert!(view.screen.iter().all(|byte| *byte == 0));
+            }
+        }
+    }
+
+    /// "Z80 store at 07FF; at 0800: private 2047; shared 2048". "A Z80 store changes that one byte and no other."
+    #[test]
+    fn p7_stores_by_the_z80() {
+        for (address, in_private, in_shared) in [
+            (0x0000, vec![0], vec![]),
+            (0x07FF, vec![2047], vec![]),
+            (0x0800, vec![], vec![2048]),
+            (0xFFFF, vec![], vec![65535]),
+        ] {
+            let (mut private, mut shared) = (vec![0; PRIVATE], vec![0; SHARED]);
+            assert_eq!(z80_store(&mut private, &mut shared, address, 0x77), Ok(()));
+            assert_eq!(changed(&[0; PRIVATE], &private), in_private);
+            assert_eq!(changed(&[0; SHARED], &shared), in_shared);
+            assert_eq!(z80_read(&mut private, &mut shared, address), Ok(0x77));
+        }
+    }
+
+    /// "two runs that agree on those give the Z80 the same answers, even if the 8088's first 2 KB differ"
+    #[test]
+    fn the_z80_does_not_see_the_8088s_first_2_kb() {
+        let mut private = vec![0x11; PRIVATE];
+        let (mut one, mut other) = (vec![0x22; SHARED], vec![0x22; SHARED]);
+        other[..0x800].fill(0x33);
+        for address in 0..=0xFFFF {
+            let byte = z80_read(&mut private, &mut one, address);
+            assert_eq!(byte, Ok(if address < 0x800 { 0x11 } else { 0x22 }));
+            assert_eq!(z80_read(&mut private, &mut other, address), byte);
+        }
+    }
+
+    /// "A Z80 address has sixteen bits, so none is refused", but for a length.
+    #[test]
+    fn the_z80s_lengths() {
+        for (private, shared) in [(PRIVATE - 1, SHARED), (PRIVATE, SHARED + 1), (0, 0)] {
+            let (mut private, mut shared) = (vec![0; private], vec![0; shared]);
+            assert_eq!(z80_read(&mut private, &mut shared, 0x0800), Err(1));
+            assert_eq!(z80_store(&mut private, &mut shared, 0, 0x77), Err(1));
+            assert!(private.iter().chain(&shared).all(|byte| *byte == 0));
+        }
+    }
+
+    /// "a read gives the byte modulo 16, a write stores the value modulo 16"
+    #[test]
+    fn shadow_modulo_16() {
+        let mut shadow = [0xF5; SHADOW];
+        assert_eq!(shadow_read(&shadow, 0), Ok(0x05));
+        assert_eq!(shadow_read(&shadow, 255), Ok(0x05));
+        assert_eq!(shadow_write(&mut shadow, 255, 0xFE), Ok(()));
+        assert_eq!(shadow[255], 0x0E);
+        assert_eq!(shadow[..255], [0xF5; 255]);
+    }
+
+    /// "5: a shadow place over 255". "The lowest number wins."
+    #[test]
+    fn shadow_refusals() {
+        for (length, place, number) in [
+            (SHADOW, 256, 5),
+            (SHADOW, usize::MAX, 5),
+            (SHADOW - 1, 0, 1),
+            (SHADOW + 1, 256, 1),
+        ] {
+            let mut shadow = vec![0xA5; length];
+            assert_eq!(shadow_read(&shadow, place), Err(number));
+            assert_eq!(shadow_write(&mut shadow, place, 0x7E), Err(number));
+            assert_eq!(shadow, vec![0xA5; length]);
+        }
+    }
+}

@@ -61,6 +61,7 @@ extern "C" {
     fn rainbow_columns(machine: Machine) -> usize;
     fn rainbow_blanked(machine: Machine) -> u8;
     fn rainbow_graphics(machine: Machine) -> u8;
+    fn rainbow_scroll_latch(machine: Machine) -> u8;
     fn rainbow_write_port(machine: Machine, shadow: *mut u8, shadow_length: usize, nvm: *mut u8, nvm_length: usize,
         port: u16, code: u8) -> Written;
     fn rainbow_read_8088(shared: *const u8, shared_length: usize, screen: *const u8, screen_length: usize,
@@ -100,6 +101,14 @@ pub fn version() -> u32 {
     unsafe { rainbow_version() }
 }
 
+/// RAINBOW_VERSION of the header, which the archive's version has to be.
+pub fn header_version() -> u32 {
+    let mut lines = include_str!("../../include/rainbow.h").lines();
+    let version = lines.find_map(|line| line.strip_prefix("#define RAINBOW_VERSION "));
+    let number = version.and_then(|version| version.trim().parse().ok());
+    number.expect("rainbow.h defines RAINBOW_VERSION as a number")
+}
+
 pub fn power_up() -> Machine {
     unsafe { rainbow_power_up() }
 }
@@ -127,6 +136,10 @@ impl Machine {
 
     pub fn graphics(self) -> u8 {
         unsafe { rainbow_graphics(self.sound()) }
+    }
+
+    pub fn scroll_latch(self) -> u8 {
+        unsafe { rainbow_scroll_latch(self.sound()) }
     }
 
     pub fn dots_of_line(self) -> usize {

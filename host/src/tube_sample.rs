@@ -1,6 +1,6 @@
 //! What the program `tube` is given: a sample screen and a sample glyph table, which are kept as texts that a
 //! person can read and mend. The head of each text says how it is read.
-use crate::chain::{PLACES, ROWS};
+use crate::chain::{capacity, PLACES, ROWS};
 use crate::dots::{address, GLYPHS, SCANS};
 
 const SCREEN: &str = include_str!("../../samples/screen.txt");
@@ -71,10 +71,7 @@ struct Row {
 
 impl Row {
     fn capacity(&self) -> usize {
-        match self.kind & 3 {
-            3 => 80,
-            _ => 40,
-        }
+        capacity(80, self.kind)
     }
 }
 
@@ -152,7 +149,11 @@ fn rows(text: &str) -> Read<Vec<Row>> {
     }
     match rows.len() {
         ROWS => Ok(rows),
-        _ => expected(file, text.lines().count(), "24 rows by the end"),
+        _ => expected(
+            file,
+            text.lines().count(),
+            &format!("{ROWS} rows by the end"),
+        ),
     }
 }
 
@@ -184,7 +185,7 @@ pub fn herd_book() -> Read<Vec<u8>> {
 #[cfg(test)]
 mod tests {
     use super::*;
-    use crate::chain::{draw, RECORD};
+    use crate::chain::{draw, COUNT_AT, KIND_AT, PAIRS_AT, RECORD};
 
     #[test]
     fn the_sample_shows_all_attributes_and_kinds() {
@@ -194,13 +195,13 @@ mod tests {
         let picture = drawn.ok().unwrap().picture;
         let records = || picture.chunks(RECORD);
         for kind in [0, 1, 2, 3, 7] {
-            assert!(records().any(|record| record[2] == kind));
+            assert!(records().any(|record| record[KIND_AT] == kind));
         }
         for attribute in 0..16 {
             let has = |pair: &[u8]| pair[1] == attribute;
-            assert!(records().any(|record| record[4..].chunks(2).any(has)));
+            assert!(records().any(|record| record[PAIRS_AT..].chunks(2).any(has)));
         }
-        assert!(records().all(|record| record[3] <= 80));
+        assert!(records().all(|record| record[COUNT_AT] <= 80));
     }
 
     #[test]

@@ -1,16 +1,26 @@
-//! Holds docs/MANUALS.md and docs/PROMISES.md to the tree: every definition and every wrong version is named, every file and
-//! every theorem that is named is there.
-//! usage: check_docs ROOT
+//! Checks the documents against the tree: every definition and every must-fail edit is named, every file, link and
+//! theorem that is named is there, the functions are counted right, what docs/READING.md quotes is quoted right, and no
+//! line is too long.
+//! usage: check_docs [--write] ROOT
+//! --write: writes the right counts into docs/PROMISES.md, and checks nothing else.
+use host::docs::{counts, lines};
+use host::mutants::files_of;
 use std::collections::BTreeSet;
 use std::fs;
 use std::path::{Path, PathBuf};
 use std::process::exit;
 
+const MANUALS: &str = "docs/MANUALS.md";
+const PROMISES: &str = "docs/PROMISES.md";
+const READING: &str = "docs/READING.md";
+
+fn give_up(why: impl std::fmt::Display) -> ! {
+    eprintln!("check_docs: {why}");
+    exit(2)
+}
+
 fn read(path: &Path) -> String {
-    fs::read_to_string(path).unwrap_or_else(|error| {
-        eprintln!("check_docs: {}: {error}", path.display());
-        exit(2)
-    })
+    fs::read_to_string(path).unwrap_or_else(|error| give_up(format!("{}: {error}", path.display())))
 }
 
 /// The files of a kind in a folder of every crate.
@@ -22,6 +32,34 @@ fn files(root: &Path, folder: &str, ending: &str) -> Vec<PathBuf> {
     files.retain(|file| file.to_string_lossy().ends_with(ending));
     files.sort();
     files
+}
+
+/// README.md and every document, with its text.
+fn documents(root: &Path) -> Vec<(String, String)> {
+    let folder = fs::read_dir(root.join("docs")).into_iter().flatten();
+    let names = folder.flatten().map(|file| file.file_name());
+    let mut names: Vec<String> = names
+        .map(|name| format!("docs/{}", name.to_string_lossy()))
+        .filter(|name| name.ends_with(".md"))
+        .collect();
+    names.push("README.md".to_string());
+    names.sort();
+    let with_text = |name: String| (name.clone(), read(&root.join(name)));
+    names.into_iter().map(with_text).collect()
+}
+
+/// The crates of crates.txt, each with the functions of its code.
+fn crates(root: &Path) -> Vec<(String, usize)> {
+    let list = read(&root.join("crates.txt"));
+    let lines = list.lines().filter(|line| !line.starts_with('#'));
+    let names = lines.filter_map(|line| line.split_once(':'));
+    names
+        .map(|(name, _)| {
+            let files = files_of(root, name).unwrap_or_else(|error| give_up(error));
+            let of_file = |file: String| counts::functions(&read(&root.join(file)));
+            (name.to_string(), files.into_iter().map(of_file).sum())
+        })
+        .collect()
 }
 
 /// The name that a line defines, if it does.
@@ -47,14 +85,14 @@ fn unnamed(root: &Path, manuals: &str) -> Vec<String> {
             let quoted = format!("`{name}`");
             let named = |line: &str| line.contains(&quoted) && line.contains(&shown);
             if !manuals.lines().any(named) {
-                unnamed.push(format!("docs/MANUALS.md does not name {name} of {shown}"));
+                unnamed.push(format!("{MANUALS} does not name {name} of {shown}"));
             }
         }
     }
     unnamed
 }
 
-/// Files that a document names and that are not there.
+/// Files that a document names or links and that are not there.
 fn missing(root: &Path, name: &str, text: &str) -> Vec<String> {
     let looks = |path: &&str| {
         let kinds = ["/specs/", "/src/", "/proofs/", "/must-fail/", "/data/"];
@@ -64,23 +102,25 @@ fn missing(root: &Path, name: &str, text: &str) -> Vec<String> {
         let below = root.join("crates").join(path);
         below.exists() || below.with_extension("edit").exists() || root.join(path).exists()
     };
-    let paths: BTreeSet<&str> = paths(text)
-        .filter(looks)
-        .filter(|path| !there(path))
-        .collect();
+    let named = paths(text).filter(looks).filter(|path| !there(path));
+    let document = root.join(name);
+    let folder = document.parent().unwrap_or(root);
+    let linked = lines::links(text).into_iter();
+    let linked = linked.filter(|link| !folder.join(link).exists());
+    let paths: BTreeSet<&str> = named.chain(linked).collect();
     paths
         .into_iter()
         .map(|path| format!("{name} names {path}, which is not there"))
         .collect()
 }
 
-/// Wrong versions that the promises do not name.
+/// Must-fail edits that the promises do not name.
 fn unlisted(root: &Path, promises: &str) -> Vec<String> {
     let edits = files(root, "must-fail", ".edit")
         .into_iter()
         .filter_map(|edit| {
             let shown = edit.strip_prefix(root).ok()?.to_string_lossy().into_owned();
-            (!promises.contains(&shown)).then(|| format!("docs/PROMISES.md does not name {shown}"))
+            (!promises.contains(&shown)).then(|| format!("{PROMISES} does not name {shown}"))
         });
     edits.collect()
 }
@@ -97,46 +137,105 @@ fn theorems(root: &Path, promises: &str) -> Vec<String> {
         .split('`')
         .filter(|name| name.ends_with("-once"))
         .collect();
-    let only = |a: &BTreeSet<&str>, b: &BTreeSet<&str>, why: &str| -> Vec<String> {
-        a.difference(b)
-            .map(|name| format!("{name}: {why}"))
-            .collect()
+    let not_named = proved.difference(&named);
+    let not_named = not_named.map(|name| format!("{PROMISES} does not name the theorem {name}"));
+    let not_there = named.difference(&proved);
+    let not_there = not_there
+        .map(|name| format!("{PROMISES} names the theorem {name}, which is not in NoSecond.antt"));
+    not_named.chain(not_there).collect()
+}
+
+/// The lines of the definitions and of the code, without the blanks around them.
+fn tree_lines(root: &Path) -> BTreeSet<String> {
+    let files = [files(root, "specs", ".antt"), files(root, "src", ".rt")].concat();
+    let lines_of = |file: &PathBuf| -> Vec<String> {
+        let text = read(file);
+        text.lines().map(|line| line.trim().to_string()).collect()
     };
-    let mut bad = only(&proved, &named, "docs/PROMISES.md does not name it");
-    bad.extend(only(
-        &named,
-        &proved,
-        "crates/runs/proofs/NoSecond.antt has no such theorem",
-    ));
-    bad
+    files.iter().flat_map(lines_of).collect()
+}
+
+/// Lines of code in docs/READING.md that no definition has.
+fn misquoted(text: &str, tree: &BTreeSet<String>) -> Vec<String> {
+    let mut quoted = lines::lines(text);
+    quoted.retain(|line| line.is_code && !tree.contains(line.text.trim()));
+    let told = quoted.iter();
+    told.map(|line| {
+        format!(
+            "{READING} line {}: no definition has this line",
+            line.number
+        )
+    })
+    .collect()
+}
+
+/// Lines of a document that are too long.
+fn long(name: &str, text: &str, tree: &BTreeSet<String>) -> Vec<String> {
+    let quotes = |line: &str| tree.contains(line);
+    let told = lines::long(text, quotes).into_iter();
+    told.map(|line| {
+        let characters = line.text.chars().count();
+        let most = lines::LONGEST;
+        format!(
+            "{name} line {}: {characters} characters, over {most}",
+            line.number
+        )
+    })
+    .collect()
+}
+
+fn check(root: &Path) -> Vec<String> {
+    let (manuals, promises) = (read(&root.join(MANUALS)), read(&root.join(PROMISES)));
+    let tree = tree_lines(root);
+    let mut problems = unnamed(root, &manuals);
+    problems.extend(unlisted(root, &promises));
+    problems.extend(theorems(root, &promises));
+    problems.extend(counts::problems(&promises, &crates(root)));
+    problems.extend(misquoted(&read(&root.join(READING)), &tree));
+    for (name, text) in documents(root) {
+        problems.extend(missing(root, &name, &text));
+        problems.extend(long(&name, &text, &tree));
+    }
+    problems
+}
+
+/// Writes the right counts; what could not be written is left as a problem.
+fn write_counts(root: &Path) -> Vec<String> {
+    let (promises, crates) = (read(&root.join(PROMISES)), crates(root));
+    let corrected = counts::corrected(&promises, &crates);
+    if corrected != promises {
+        let written = fs::write(root.join(PROMISES), &corrected);
+        written.unwrap_or_else(|error| give_up(format!("{PROMISES}: {error}")));
+        println!("{PROMISES}: the counts are written");
+    }
+    counts::problems(&corrected, &crates)
 }
 
 fn main() {
-    let root = match std::env::args().nth(1) {
-        Some(root) if Path::new(&root).join("crates.txt").exists() => PathBuf::from(root),
-        _ => {
-            eprintln!("usage: check_docs ROOT, where ROOT is the folder of crates.txt");
-            exit(2)
-        }
+    let words: Vec<String> = std::env::args().skip(1).collect();
+    let words: Vec<&str> = words.iter().map(String::as_str).collect();
+    let (root, write) = match words[..] {
+        ["--write", root] => (root, true),
+        [root] => (root, false),
+        _ => give_up("usage: check_docs [--write] ROOT"),
     };
-    let (manuals, promises) = ("docs/MANUALS.md", "docs/PROMISES.md");
-    let (manuals_text, promises_text) = (read(&root.join(manuals)), read(&root.join(promises)));
-    let mut bad = unnamed(&root, &manuals_text);
-    bad.extend(missing(&root, manuals, &manuals_text));
-    bad.extend(missing(&root, promises, &promises_text));
-    for name in [
-        "docs/ARCHITECTURE.md",
-        "docs/CALLS.md",
-        "docs/DECISIONS.md",
-        "README.md",
-    ] {
-        bad.extend(missing(&root, name, &read(&root.join(name))));
+    let root = Path::new(root);
+    if !root.join("crates.txt").exists() {
+        give_up(format!("{} has no crates.txt", root.display()));
     }
-    bad.extend(unlisted(&root, &promises_text));
-    bad.extend(theorems(&root, &promises_text));
-    for one in &bad {
-        println!("{one}");
+    let problems = if write {
+        write_counts(root)
+    } else {
+        check(root)
+    };
+    for problem in &problems {
+        println!("{problem}");
     }
-    println!("{} to mend in docs/", bad.len());
-    exit(i32::from(!bad.is_empty()));
+    let word = if problems.len() == 1 {
+        "problem"
+    } else {
+        "problems"
+    };
+    println!("docs: {} {word}", problems.len());
+    exit(i32::from(!problems.is_empty()));
 }

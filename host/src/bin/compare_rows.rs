@@ -53,6 +53,6 @@ fn main() -> std::io::Result<()> {
             _ => whole += 1,
         }
     }
-    println!("{screens} screens alike: {whole} whole, {torn} with a torn row, {refused} refused");
+    println!("{screens} screens, no difference: {whole} whole, {torn} with a torn row, {refused} refused");
     Ok(())
 }

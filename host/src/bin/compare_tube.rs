@@ -69,6 +69,6 @@ fn main() -> std::io::Result<()> {
         drawn += usize::from(right);
         refused += usize::from(!right);
     }
-    println!("{screens} inputs alike: {drawn} drawn, {refused} refused");
+    println!("{screens} inputs, no difference: {drawn} drawn, {refused} refused");
     Ok(())
 }

@@ -1,6 +1,6 @@
-//! What the program crates/monitor must answer to the lines of the files, or of standard input if none is
-//! named, by the model.
-use host::monitor::{answers, Session};
+//! What the program crates/monitor must write for the lines of the files, or of standard input if none is
+//! named, by the model. Lines of files are shown ahead of their answers.
+use host::monitor::{answers, transcript, Session};
 use std::io::{self, Read, Write};
 use std::process::exit;
 
@@ -18,7 +18,7 @@ fn main() -> io::Result<()> {
             eprintln!("expected_monitor: expected a file of lines: {file:?}: {error}");
             exit(2)
         });
-        out.write_all(&answers(&mut session, &text))?;
+        out.write_all(&transcript(&mut session, &text))?;
     }
     Ok(())
 }

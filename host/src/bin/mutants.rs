@@ -1,8 +1,8 @@
-//! Makes small wrong versions of the code and runs each, unproved, against the stored runs. Says which no run notices.
+//! Makes mutants of the code and runs each, unproved, against the stored runs. Says which no run notices.
 //! usage: mutants ROOT [CRATE...]
-use host::mutants::alike::Reasons;
 use host::mutants::build::{Shop, Tree};
-use host::mutants::noticed::{verdict, Run, Verdict};
+use host::mutants::equivalent::Reasons;
+use host::mutants::noticed::{verdict, Run, Verdict, CRASH, ENDLESS};
 use host::mutants::{files_of, of_file, rules, Mutant};
 use std::fs;
 use std::path::{Path, PathBuf};
@@ -22,8 +22,8 @@ fn expect<T, E: std::fmt::Display>(answer: Result<T, E>) -> T {
     answer.unwrap_or_else(|why| give_up(why))
 }
 
-/// The versions made by hand, then those made by rule, of some crates.
-fn versions(root: &Path, crates: &[String]) -> Vec<Mutant> {
+/// The mutants made by hand, then those made by rule, of some crates.
+fn mutants_of(root: &Path, crates: &[String]) -> Vec<Mutant> {
     let by_hand = expect(fs::read_to_string(root.join("host/mutants/rules.txt")));
     let mut mutants = expect(rules::read(root, &by_hand));
     mutants.retain(|mutant| crates.contains(&mutant.crate_name));
@@ -36,7 +36,7 @@ fn versions(root: &Path, crates: &[String]) -> Vec<Mutant> {
     mutants
 }
 
-/// The verdict on each version, by as many workers as there are processors.
+/// The verdict on each mutant, by as many workers as there are processors.
 fn verdicts(shop: &Shop, runs: &[Run], mutants: &[Mutant]) -> Vec<Verdict> {
     let workers = thread::available_parallelism().map_or(1, |n| n.get());
     let next = Mutex::new(mutants.iter().enumerate());
@@ -55,7 +55,7 @@ fn verdicts(shop: &Shop, runs: &[Run], mutants: &[Mutant]) -> Vec<Verdict> {
                 let mut done = done.lock().unwrap();
                 done.push((number, one));
                 if done.len() % 50 == 0 {
-                    eprintln!("{} of {} versions", done.len(), mutants.len());
+                    eprintln!("{} of {} mutants", done.len(), mutants.len());
                 }
             });
         }
@@ -65,16 +65,16 @@ fn verdicts(shop: &Shop, runs: &[Run], mutants: &[Mutant]) -> Vec<Verdict> {
     done.into_iter().map(|(_, one)| one).collect()
 }
 
-/// What was said of the versions so far.
+/// What was said of the mutants so far.
 #[derive(Default)]
 struct Tally {
     not_taken: usize,
     noticed: usize,
-    faults: usize,
+    crashes: usize,
     endless: usize,
-    alike: Vec<Mutant>,
-    /// What there is to mend.
-    bad: Vec<String>,
+    equivalent: usize,
+    unnoticed: Vec<Mutant>,
+    problems: Vec<String>,
     list: String,
 }
 
@@ -88,29 +88,32 @@ impl Tally {
             Verdict::NoProgram(why) => {
                 self.not_taken += 1;
                 if mutant.rule.is_some() {
-                    self.bad.push(format!("rustc does not take\n{line}\n{why}"));
+                    self.problems
+                        .push(format!("rustc does not take\n{line}\n{why}"));
                 }
                 "rustc does not take it".to_string()
             }
             Verdict::Noticed(case) => {
                 self.noticed += 1;
-                self.faults += usize::from(case.starts_with("a fault"));
-                self.endless += usize::from(case.starts_with("does not end"));
+                self.crashes += usize::from(case.starts_with(CRASH));
+                self.endless += usize::from(case.starts_with(ENDLESS));
                 case
             }
-            Verdict::Alike => self.alike(mutant, &line, reasons),
+            Verdict::Unnoticed => self.unnoticed(mutant, &line, reasons),
         };
         self.list.push_str(&format!("{line}\n    {said}\n"));
     }
 
-    /// A version that no run notices. One that was made for a rule has to be noticed.
-    fn alike(&mut self, mutant: &Mutant, line: &str, reasons: &Reasons) -> String {
-        self.alike.push(mutant.clone());
+    /// A mutant that no run notices. One that was made for a rule has to be noticed.
+    fn unnoticed(&mut self, mutant: &Mutant, line: &str, reasons: &Reasons) -> String {
+        self.unnoticed.push(mutant.clone());
         match reasons.of(mutant) {
-            Some(reason) if mutant.rule.is_none() => format!("alike: {reason}"),
+            Some(reason) if mutant.rule.is_none() => {
+                self.equivalent += 1;
+                format!("equivalent: {reason}")
+            }
             _ => {
-                self.bad
-                    .push(format!("nothing but the proof notices\n{line}"));
+                self.problems.push(format!("no run notices\n{line}"));
                 "NOT NOTICED".to_string()
             }
         }
@@ -137,9 +140,9 @@ fn main() {
             "expected a crate that a program is made of, not {other}; there are {there}"
         ));
     }
-    let reasons = expect(fs::read_to_string(root.join("host/mutants/alike.txt")));
+    let reasons = expect(fs::read_to_string(root.join("host/mutants/equivalent.txt")));
     let reasons = expect(Reasons::read(&reasons));
-    let mutants = versions(&root, &crates);
+    let mutants = mutants_of(&root, &crates);
     let shop = expect(Shop::open(&root, &tree, root.join("target/mutants/right")));
     let runs: Vec<Run> = PROGRAMS
         .iter()
@@ -157,25 +160,26 @@ fn main() {
     for (mutant, verdict) in mutants.iter().zip(verdicts(&shop, &runs, &mutants)) {
         tally.add(mutant, verdict, &reasons);
     }
-    let stale = reasons.of_none(&crates, &tally.alike).into_iter();
-    tally.bad.extend(
-        stale.map(|one| format!("alike.txt has no such version, or it is not alike\n{one}")),
-    );
+    let stale = reasons.of_none(&crates, &tally.unnoticed).into_iter();
+    let stale = stale.map(|one| {
+        format!("equivalent.txt has a mutant that is not there, or that a run notices\n{one}")
+    });
+    tally.problems.extend(stale);
     expect(fs::write(root.join("target/mutants/list.txt"), &tally.list));
-    for one in &tally.bad {
+    for one in &tally.problems {
         println!("{one}");
     }
     println!(
-        "{} versions of {} crates, each in target/mutants/list.txt",
+        "{} mutants of {} crates, each in target/mutants/list.txt",
         mutants.len(),
         crates.len()
     );
     println!("rustc does not take: {}", tally.not_taken);
     println!(
-        "a stored run notices: {}, of them {} by a fault, {} that do not end",
-        tally.noticed, tally.faults, tally.endless
+        "a stored run notices: {}, of them {} by a crash, {} that do not end",
+        tally.noticed, tally.crashes, tally.endless
     );
-    println!("alike: {}", tally.alike.len());
-    println!("to mend: {}", tally.bad.len());
-    exit(i32::from(!tally.bad.is_empty()));
+    println!("equivalent, with a reason: {}", tally.equivalent);
+    println!("problems: {}", tally.problems.len());
+    exit(i32::from(!tally.problems.is_empty()));
 }

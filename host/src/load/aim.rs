@@ -1,6 +1,6 @@
 //! Addresses and bytes that matter: the bytes that rows read, those beside them, and the edges of the ranges.
 use super::model::Model;
-use crate::chain::{PLACES, RECORD, ROWS};
+use crate::chain::{capacity, COUNT_AT, DARK, KIND_AT, PLACES, RECORD, ROWS, TORN};
 use crate::hard::Chance;
 
 pub const EDGES: [u32; 20] = [
@@ -21,24 +21,24 @@ struct Shown {
 
 fn shown(model: &Model, row: usize) -> Shown {
     let record = &model.picture[row * RECORD..][..RECORD];
-    let columns = usize::from(model.machine.columns);
-    let capacity = match record[2] & 3 {
-        3 => columns,
-        _ => columns / 2,
-    };
-    let torn = record[3] == 255;
+    let capacity = capacity(model.machine.columns.into(), record[KIND_AT]);
+    let torn = record[COUNT_AT] == TORN;
     Shown {
         start: usize::from(u16::from_be_bytes([record[0], record[1]])),
         capacity,
-        cells: if torn { capacity } else { record[3].into() },
+        cells: if torn {
+            capacity
+        } else {
+            record[COUNT_AT].into()
+        },
         torn,
     }
 }
 
 /// How many rows there are ahead of the first dark one.
 fn lit(model: &Model) -> usize {
-    let counts = (0..ROWS).map(|row| model.picture[row * RECORD + 3]);
-    counts.take_while(|count| *count != 254).count()
+    let counts = (0..ROWS).map(|row| model.picture[row * RECORD + COUNT_AT]);
+    counts.take_while(|count| *count != DARK).count()
 }
 
 /// A place that a row reads, or the one after its link, and the memory that it is in.

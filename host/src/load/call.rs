@@ -110,6 +110,7 @@ pub enum Call {
     Columns,
     Blanked,
     Graphics,
+    ScrollLatch,
     DotsOfLine,
     WritePort { port: u16, code: u8 },
     Read8088 { address: u32 },
@@ -130,13 +131,14 @@ pub enum Call {
     OtherPicture { seed: u64 },
 }
 
-pub const FUNCTIONS: [&str; 19] = [
+pub const FUNCTIONS: [&str; 20] = [
     "version",
     "power_up",
     "vertical_tick",
     "columns",
     "blanked",
     "graphics",
+    "scroll_latch",
     "dots_of_line",
     "write_port",
     "read_8088",
@@ -162,6 +164,7 @@ impl Call {
             Self::Columns => "columns",
             Self::Blanked => "blanked",
             Self::Graphics => "graphics",
+            Self::ScrollLatch => "scroll_latch",
             Self::DotsOfLine => "dots_of_line",
             Self::WritePort { .. } => "write_port",
             Self::Read8088 { .. } => "read_8088",

@@ -4,8 +4,11 @@ use super::call::{Call, Lent, Step, WRONG_LENGTHS};
 use super::model::Model;
 use super::sides::Sides;
 use super::world;
-use crate::chain::PICTURE;
+use crate::chain::{PICTURE, ROWS};
+use crate::dots::{SCANS, UNDERLINE_SCAN};
 use crate::hard::Chance;
+use crate::memories::SHADOW;
+use crate::mending::MARK_BITS;
 
 /// The kinds of calls, with how often they are chosen.
 #[derive(Clone, Copy)]
@@ -24,7 +27,7 @@ enum Choice {
     Line,
 }
 
-const CHOICES: [(usize, Choice); 20] = [
+const CHOICES: [(usize, Choice); 21] = [
     (260, Choice::Stored),
     (120, Choice::Port),
     (60, Choice::Read8088),
@@ -44,6 +47,7 @@ const CHOICES: [(usize, Choice); 20] = [
     (28, Choice::Plain(Call::Columns)),
     (28, Choice::Plain(Call::Blanked)),
     (28, Choice::Plain(Call::Graphics)),
+    (28, Choice::Plain(Call::ScrollLatch)),
     (28, Choice::Plain(Call::DotsOfLine)),
 ];
 
@@ -151,21 +155,21 @@ fn call(chance: &mut Chance, model: &Model, choice: Choice) -> Call {
 fn numbered(chance: &mut Chance, choice: Choice) -> Call {
     match choice {
         Choice::ReadShadow => Call::ReadShadow {
-            place: about(chance, 256),
+            place: about(chance, SHADOW),
         },
         Choice::WriteShadow => Call::WriteShadow {
-            place: about(chance, 256),
+            place: about(chance, SHADOW),
             value: chance.byte(),
         },
         Choice::Marked => Call::IsMarked {
             marks: chance.below(1 << 32) as u32,
-            row: about(chance, 32),
+            row: about(chance, MARK_BITS),
         },
         Choice::Line => Call::ScanLine {
-            row: about(chance, 24),
+            row: about(chance, ROWS),
             scan: match chance.below(4) {
-                0 => 9,
-                _ => about(chance, 11),
+                0 => UNDERLINE_SCAN,
+                _ => about(chance, SCANS + 1),
             },
         },
         _ => Call::GlyphPart {

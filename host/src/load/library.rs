@@ -60,7 +60,7 @@ impl Guarded {
         Some(format!("{place:X} bytes after its end"))
     }
 
-    /// Makes a wrong library of a right one, to try the tester.
+    /// A fault of the library's side, to try the tester.
     pub fn break_guard(&mut self) {
         self.bytes[GUARD + self.listed] ^= 1;
     }
@@ -98,6 +98,7 @@ impl Library {
             Call::Columns => Seen::value(machine.columns()),
             Call::Blanked => Seen::value(machine.blanked()),
             Call::Graphics => Seen::value(machine.graphics()),
+            Call::ScrollLatch => Seen::value(machine.scroll_latch()),
             Call::DotsOfLine => Seen::value(machine.dots_of_line()),
             Call::IsMarked { marks, row } => Seen::value(rainbow::is_marked(marks, row)),
             _ => self.lending_call(&step.call, &step.lent),

@@ -3,6 +3,7 @@
 mod aim;
 mod call;
 mod choose;
+mod fault;
 mod library;
 mod model;
 mod seen;
@@ -11,13 +12,13 @@ mod sides;
 mod sweep;
 mod words;
 mod world;
-mod wrong;
 
 pub use call::FUNCTIONS;
+pub use fault::{Fault, FAULTS};
 pub use shrink::Script;
-pub use wrong::{Wrong, WRONGS};
 
 use crate::hard::Chance;
+use crate::REFUSALS;
 use call::{Call, Step};
 use sides::Sides;
 use std::thread::spawn;
@@ -27,7 +28,8 @@ use world::World;
 #[derive(Default)]
 pub struct Tally {
     pub calls: [u64; FUNCTIONS.len()],
-    pub refusals: [u64; 7],
+    /// By number; 0 is accepted.
+    pub refusals: [u64; REFUSALS + 1],
 }
 
 impl Tally {
@@ -48,18 +50,18 @@ struct Run<'a> {
     world: World,
     sides: Sides,
     steps: Vec<Step>,
-    wrong: Wrong,
+    fault: Fault,
     tally: &'a mut Tally,
 }
 
 impl<'a> Run<'a> {
-    fn new(chance: &mut Chance, wrong: Wrong, tally: &'a mut Tally) -> Self {
+    fn new(chance: &mut Chance, fault: Fault, tally: &'a mut Tally) -> Self {
         let world = World::any(chance);
         Self {
             world,
-            sides: Sides::new(&world, wrong),
+            sides: Sides::new(&world, fault),
             steps: Vec::new(),
-            wrong,
+            fault,
             tally,
         }
     }
@@ -79,7 +81,7 @@ impl<'a> Run<'a> {
     }
 
     fn script(&self) -> Script {
-        shrink::shrunk(self.world, &self.steps, self.wrong)
+        shrink::shrunk(self.world, &self.steps, self.fault)
             .expect("the same calls end in a difference again")
     }
 }
@@ -88,13 +90,13 @@ impl<'a> Run<'a> {
 const THREADS: u64 = 2;
 
 /// Makes the calls of the sweep, and then calls by chance until there have been so many.
-pub fn load(calls: u64, seed: u64, wrong: Wrong) -> Result<Tally, Script> {
-    let mut tally = sweep_all(&mut Chance(seed), wrong)?;
+pub fn load(calls: u64, seed: u64, fault: Fault) -> Result<Tally, Script> {
+    let mut tally = sweep_all(&mut Chance(seed), fault)?;
     let each = calls.saturating_sub(tally.total()) / THREADS;
     let threads: Vec<_> = (1..=THREADS)
         .map(|thread| {
             let seed = seed.rotate_left(16 * thread as u32);
-            spawn(move || by_chance(each, &mut Chance(seed), wrong))
+            spawn(move || by_chance(each, &mut Chance(seed), fault))
         })
         .collect();
     for thread in threads {
@@ -103,20 +105,20 @@ pub fn load(calls: u64, seed: u64, wrong: Wrong) -> Result<Tally, Script> {
     Ok(tally)
 }
 
-fn sweep_all(chance: &mut Chance, wrong: Wrong) -> Result<Tally, Script> {
+fn sweep_all(chance: &mut Chance, fault: Fault) -> Result<Tally, Script> {
     let mut tally = Tally::default();
     for steps in sweep::pieces() {
-        let mut run = Run::new(chance, wrong, &mut tally);
+        let mut run = Run::new(chance, fault, &mut tally);
         steps.into_iter().try_for_each(|step| run.step(step))?;
         run.end()?;
     }
     Ok(tally)
 }
 
-fn by_chance(calls: u64, chance: &mut Chance, wrong: Wrong) -> Result<Tally, Script> {
+fn by_chance(calls: u64, chance: &mut Chance, fault: Fault) -> Result<Tally, Script> {
     let mut tally = Tally::default();
     while tally.total() < calls {
-        let mut run = Run::new(chance, wrong, &mut tally);
+        let mut run = Run::new(chance, fault, &mut tally);
         let true_run = chance.below(2) == 0;
         for _ in 0..100 + chance.below(300) {
             let step = choose::step(chance, &run.sides, true_run);

@@ -1,13 +1,13 @@
 //! The model's side: the model of document 01, with its own copy of the buffers and of the machine.
 use super::call::{Buffer, Call, Lengths, Step, BUFFERS};
+use super::fault::Fault;
 use super::library::guard;
 use super::seen::{mirrored, Seen};
-use super::wrong::Wrong;
 use crate::chain::{self, PICTURE};
 use crate::dots;
 use crate::machine::Machine;
 use crate::memories::{self, View8088};
-use crate::{mending, refusal, Answer};
+use crate::{mending, rainbow, refusal, Answer};
 
 #[derive(Clone)]
 pub struct Model {
@@ -61,13 +61,13 @@ impl Model {
     }
 
     /// Makes the call. Buffers of other lengths are lent as copies, and what they then hold comes back.
-    pub fn call(&mut self, step: &Step, wrong: Wrong) -> Seen {
+    pub fn call(&mut self, step: &Step, fault: Fault) -> Seen {
         if step.whole() {
-            return wrong.call(self, &step.call);
+            return fault.call(self, &step.call);
         }
         let mut lent = self.clone();
         lent.resize(&step.lent);
-        let seen = wrong.call(&mut lent, &step.call);
+        let seen = fault.call(&mut lent, &step.call);
         self.machine = lent.machine;
         for buffer in BUFFERS {
             let from = lent.bytes(buffer);
@@ -91,7 +91,7 @@ impl Model {
     pub fn right(&mut self, call: &Call) -> Seen {
         let machine = self.machine;
         match *call {
-            Call::Version => Seen::value(1u8),
+            Call::Version => Seen::value(rainbow::header_version()),
             Call::PowerUp => Seen::machine(0, mirrored(&Machine::power_up())),
             Call::VerticalTick => {
                 self.machine.interrupt = true;
@@ -100,8 +100,9 @@ impl Model {
             Call::Columns => Seen::value(machine.columns),
             Call::Blanked => Seen::value(machine.blanked()),
             Call::Graphics => Seen::value(machine.graphics()),
-            Call::DotsOfLine => Seen::value(if machine.columns == 80 { 800 } else { 1188u16 }),
-            Call::IsMarked { marks, row } => Seen::value(row < 32 && marks >> row & 1 == 1),
+            Call::ScrollLatch => Seen::value(machine.scroll_latch()),
+            Call::DotsOfLine => Seen::value(dots::line_dots(&machine)),
+            Call::IsMarked { marks, row } => Seen::value(mending::is_marked(marks, row)),
             _ => self.lending_call(call),
         }
     }

@@ -1,9 +1,9 @@
 //! Makes the calls that ended in a difference as few and as plain as they can be while there is one.
 use super::call::{Call, Lent, Step};
+use super::fault::Fault;
 use super::sides::{Differs, Sides};
 use super::words::words;
 use super::world::{Kind, World};
-use super::wrong::Wrong;
 use crate::machine::Machine;
 use std::fmt;
 
@@ -36,8 +36,8 @@ struct Trial {
 }
 
 impl Trial {
-    fn new(world: World, wrong: Wrong) -> Self {
-        let fresh = Sides::new(&world, wrong);
+    fn new(world: World, fault: Fault) -> Self {
+        let fresh = Sides::new(&world, fault);
         Self { world, fresh }
     }
 
@@ -60,15 +60,15 @@ impl Trial {
 }
 
 /// The shortest script that removing and simplifying comes to.
-pub fn shrunk(world: World, steps: &[Step], wrong: Wrong) -> Option<Script> {
-    let trial = Trial::new(world, wrong);
+pub fn shrunk(world: World, steps: &[Step], fault: Fault) -> Option<Script> {
+    let trial = Trial::new(world, fault);
     let script = fewer(&trial, trial.script(steps)?);
     let script = plainer(&trial, script);
     let blank = World {
         kind: Kind::Blank,
         ..world
     };
-    let blank = Trial::new(blank, wrong);
+    let blank = Trial::new(blank, fault);
     match blank.script(&script.steps) {
         Some(script) => Some(plainer(&blank, fewer(&blank, script))),
         None => Some(script),

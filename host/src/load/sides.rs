@@ -1,11 +1,11 @@
 //! The library and the model side by side, given the same calls.
 use super::call::{Buffer, Call, Step, BUFFERS};
+use super::fault::Fault;
 use super::library::Library;
 use super::model::Model;
 use super::seen::{mirrored, Seen};
 use super::words::answered;
 use super::world::{self, World};
-use super::wrong::Wrong;
 use crate::chain::{self, PICTURE, RECORD};
 use crate::hard::Chance;
 
@@ -15,7 +15,7 @@ pub struct Sides {
     pub library: Library,
     /// The picture has been drawn, and nothing has been done since that demand 3's runs do not hold.
     pub kept: bool,
-    wrong: Wrong,
+    fault: Fault,
     before: Vec<u8>,
 }
 
@@ -23,13 +23,13 @@ pub struct Sides {
 pub type Differs = String;
 
 impl Sides {
-    pub fn new(world: &World, wrong: Wrong) -> Self {
+    pub fn new(world: &World, fault: Fault) -> Self {
         let model = world.model();
         Self {
             library: Library::new(&model),
             model,
             kept: false,
-            wrong,
+            fault,
             before: vec![0; PICTURE],
         }
     }
@@ -43,9 +43,9 @@ impl Sides {
         let columns = self.model.machine.columns;
         self.before
             .copy_from_slice(self.library.content(Buffer::Picture));
-        let mut model = self.model.call(step, self.wrong);
+        let mut model = self.model.call(step, self.fault);
         let mut library = self.library.call(step);
-        self.try_wrong(&step.call, [&mut model, &mut library]);
+        self.put_fault(&step.call, [&mut model, &mut library]);
         match library.difference(&model, answered(&step.call)) {
             Some(differs) => Err(differs),
             None => Ok(()),
@@ -66,10 +66,10 @@ impl Sides {
         Ok(library)
     }
 
-    fn try_wrong(&mut self, call: &Call, answers: [&mut Seen; 2]) {
-        self.wrong.after(call, &mut self.library, &mut self.model);
+    fn put_fault(&mut self, call: &Call, answers: [&mut Seen; 2]) {
+        self.fault.after(call, &mut self.library, &mut self.model);
         for seen in answers {
-            self.wrong.answered(call, seen);
+            self.fault.answered(call, seen);
         }
     }
 

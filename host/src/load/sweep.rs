@@ -1,11 +1,23 @@
 //! Every port, code, edge, row, scan and place once, before calls are chosen by chance.
 use super::aim::EDGES;
 use super::call::{Call, Step, WRONG_LENGTHS};
+use crate::chain::ROWS;
+use crate::dots::SCANS;
 use crate::machine::Machine;
+use crate::memories::SHADOW;
+use crate::mending::MARK_BITS;
 
 /// The calls of the sweep in pieces, each for a world of its own.
 pub fn pieces() -> Vec<Vec<Step>> {
-    let pieces = [ports(), edges(), addresses(), places(), lines(), marks()];
+    let pieces = [
+        ports(),
+        latches(),
+        edges(),
+        addresses(),
+        places(),
+        lines(),
+        marks(),
+    ];
     let mut all: Vec<Vec<Step>> = pieces
         .iter()
         .map(|calls| calls.iter().copied().map(Step::from).collect())
@@ -20,6 +32,23 @@ fn ports() -> Vec<Call> {
         (0..=0x10F).flat_map(|port| [0x00, 0x05, 0x10].map(|code| Call::WritePort { port, code }));
     let listed = [0x04, 0x0A, 0x0C, 0x10C].into_iter().flat_map(of_port);
     listed.chain(each).collect()
+}
+
+/// Every byte in the latch: read, loaded by a code from 00 to 07, and read again.
+fn latches() -> Vec<Call> {
+    let mut calls = Vec::new();
+    for latch in 0..=255 {
+        let machine = Machine {
+            latch,
+            ..Machine::power_up()
+        };
+        let (port, code) = (0x0C, latch / 16 % 8);
+        calls.push(Call::SetMachine(machine));
+        calls.push(Call::ScrollLatch);
+        calls.push(Call::WritePort { port, code });
+        calls.push(Call::ScrollLatch);
+    }
+    calls
 }
 
 /// Every code to port 0A after bytes about its edges, with a shadow that differs from the NVM.
@@ -60,13 +89,13 @@ fn addresses() -> Vec<Call> {
 }
 
 fn places() -> Vec<Call> {
-    let huge = [1 << 16, 1 << 32, usize::MAX - 255, usize::MAX];
+    let huge = [1 << 16, 1 << 32, usize::MAX - SHADOW + 1, usize::MAX];
     let of_place = |place| {
         let value = place as u8 ^ 0xA5;
         let read = Call::ReadShadow { place };
         [read, Call::WriteShadow { place, value }, read]
     };
-    let shadow = (0..=260).chain(huge).flat_map(of_place);
+    let shadow = (0..SHADOW + 5).chain(huge).flat_map(of_place);
     let parts = (0..=255).map(|code| Call::GlyphPart { code });
     shadow.chain(parts).collect()
 }
@@ -77,8 +106,8 @@ fn lines() -> Vec<Call> {
         code: 0x02,
     };
     let mut calls = vec![shown, Call::Draw];
-    for row in (0..=24).chain([255, usize::MAX]) {
-        for scan in (0..=11).chain([16, usize::MAX]) {
+    for row in (0..=ROWS).chain([255, usize::MAX]) {
+        for scan in (0..=SCANS + 1).chain([16, usize::MAX]) {
             calls.push(Call::ScanLine { row, scan });
         }
     }
@@ -87,7 +116,7 @@ fn lines() -> Vec<Call> {
 
 fn marks() -> Vec<Call> {
     let of_marks = |marks| {
-        let rows = (0..=33).chain([64, 1 << 32, usize::MAX]);
+        let rows = (0..MARK_BITS + 2).chain([64, 1 << 32, usize::MAX]);
         rows.map(move |row| Call::IsMarked { marks, row })
     };
     let all = [0, 1, 0x80_0000, 0xFF_FFFF, 0x8000_0000, u32::MAX];
@@ -112,12 +141,12 @@ fn lengths() -> Vec<Step> {
     ];
     let mut steps = Vec::new();
     for call in calls {
-        for wrong in WRONG_LENGTHS {
+        for length in WRONG_LENGTHS {
             let mut all = Step::from(call);
             for buffer in call.buffers() {
                 let mut one = Step::from(call);
-                one.lent.set(*buffer, wrong);
-                all.lent.set(*buffer, wrong);
+                one.lent.set(*buffer, length);
+                all.lent.set(*buffer, length);
                 steps.push(one);
             }
             steps.push(all);

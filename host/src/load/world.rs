@@ -1,6 +1,6 @@
 //! Memories and machines to begin with, made again from a seed.
 use super::model::Model;
-use crate::chain::{PICTURE, PLACES};
+use crate::chain::{capacity, PICTURE, PLACES, ROWS};
 use crate::dots::{GLYPHS, LINE};
 use crate::hard::{self, Chance};
 use crate::machine::Machine;
@@ -95,10 +95,7 @@ impl Layer<'_> {
     /// is there already, for the chain goes on from that.
     fn row(&mut self, kind: Kind, columns: usize, at: (usize, u8)) -> Option<(usize, u8)> {
         let (start, row_kind) = at;
-        let capacity = match row_kind & 3 {
-            3 => columns,
-            _ => columns / 2,
-        };
+        let capacity = capacity(columns, row_kind);
         self.starts.push(start);
         let mut cells = self.cells(kind, capacity);
         let to_end = PLACES - start;
@@ -176,7 +173,7 @@ fn memories(chance: &mut Chance, kind: Kind, columns: usize) -> (Vec<u8>, Vec<u8
         starts: Vec::new(),
         free: 0,
     };
-    (0..26).try_fold((0, 3), |at, _| layer.row(kind, columns, at));
+    (0..ROWS + 2).try_fold((0, 3), |at, _| layer.row(kind, columns, at));
     (screen, attribute)
 }
 

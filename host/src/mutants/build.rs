@@ -175,7 +175,7 @@ impl<'a> Shop<'a> {
         })
     }
 
-    /// Puts a version's file in its place; the libraries that are made of it are built anew.
+    /// Puts a mutant's file in its place; the libraries that are made of it are built anew.
     pub fn put(&self, mutant: &Mutant) -> Result<(), String> {
         self.write_file(&mutant.crate_name, &mutant.file, &mutant.text)
             .map_err(|error| error.to_string())?;
@@ -185,7 +185,7 @@ impl<'a> Shop<'a> {
             .try_for_each(|one| self.build(one))
     }
 
-    /// Makes what a version changed as it is in another folder.
+    /// Makes what a mutant changed as it is in another folder.
     pub fn restore(&self, from: &Shop, mutant: &Mutant) -> io::Result<()> {
         let source = from.source(&mutant.crate_name);
         copy_folder(&source, &self.source(&mutant.crate_name))?;

@@ -152,7 +152,22 @@ pub fn tokens(text: &str) -> Vec<Token> {
 mod tests {
     use super::*;
 
-    const FILE: &str = "// A file.\nghost use a.{b};\n#[repr(C)]\npub struct S {\n    pub a: u8,\n}\n\npub fn f(a: u8) -> u8\n    requires { ⌜ a ≡ Unit {0} ⌝ }\n    ensures { λ r. ⌜ r\n        ≡ a ⌝ }\n{\n    a <= b'+' // less\n}\n";
+    const FILE: &str = "\
+// A file.
+ghost use a.{b};
+#[repr(C)]
+pub struct S {
+    pub a: u8,
+}
+
+pub fn f(a: u8) -> u8
+    requires { ⌜ a ≡ Unit {0} ⌝ }
+    ensures { λ r. ⌜ r
+        ≡ a ⌝ }
+{
+    a <= b'+' // less
+}
+";
 
     #[test]
     fn contracts_are_taken_away() {

@@ -1,9 +1,9 @@
-//! Small wrong versions of the proved code, each run unproved against the stored runs (`make mutants`). The code
-//! without its contracts is Rust, so a version is built by rustc.
-pub mod alike;
+//! Mutants of the proved code: the code with one small change, run unproved against the stored runs (`make mutants`).
+//! The code without its contracts is Rust, so a mutant is built by rustc.
 pub mod build;
 pub mod changes;
 pub mod code;
+pub mod equivalent;
 pub mod kit;
 pub mod noticed;
 pub mod rules;
@@ -11,7 +11,7 @@ pub mod rules;
 use std::collections::HashMap;
 use std::path::Path;
 
-/// A wrong version: one file of a crate, changed.
+/// One file of a crate, changed.
 #[derive(Clone)]
 pub struct Mutant {
     pub crate_name: String,
@@ -21,7 +21,7 @@ pub struct Mutant {
     pub shown: String,
     /// The file's whole text, changed.
     pub text: String,
-    /// The sentence of document 01 that the version breaks, if it was made for one.
+    /// The sentence of document 01 that the mutant breaks, if it was made for one.
     pub rule: Option<String>,
 }
 

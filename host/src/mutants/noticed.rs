@@ -1,4 +1,4 @@
-//! Whether a stored run notices a version: a program that is built of it writes something else.
+//! Whether a stored run notices a mutant: a program that is built of it writes something else.
 use super::build::Shop;
 use super::Mutant;
 use std::fs::File;
@@ -11,12 +11,19 @@ use std::time::{Duration, Instant};
 /// Longer than any run takes.
 const LIMIT: Duration = Duration::from_secs(20);
 
+/// The exit status of a Rust program that panics.
+const PANIC: i32 = 101;
+
+/// How a mutant was noticed, ahead of the case, if not by what it wrote.
+pub const CRASH: &str = "a crash";
+pub const ENDLESS: &str = "does not end";
+
 pub enum Verdict {
     /// rustc does not take it, and says why.
     NoProgram(String),
     /// What noticed it.
     Noticed(String),
-    Alike,
+    Unnoticed,
 }
 
 /// A program with what it is given and what it must write.
@@ -89,21 +96,21 @@ impl Run {
             .count();
         let case = self.case(same);
         if late {
-            return Ok(Some(format!("does not end: {case}")));
+            return Ok(Some(format!("{ENDLESS}: {case}")));
         }
         if written == self.expected {
             return Ok(None);
         }
-        let fault = status.code() == Some(101) && same == written.len();
-        Ok(Some(if fault {
-            format!("a fault: {case}")
+        let crash = status.code() == Some(PANIC) && same == written.len();
+        Ok(Some(if crash {
+            format!("{CRASH}: {case}")
         } else {
             case
         }))
     }
 }
 
-/// Runs the programs that are made of a version, until one notices it.
+/// Runs the programs that are made of a mutant, until one notices it.
 pub fn verdict(shop: &Shop, runs: &[Run], mutant: &Mutant) -> io::Result<Verdict> {
     if let Err(why) = shop.put(mutant) {
         return Ok(Verdict::NoProgram(why));
@@ -119,5 +126,5 @@ pub fn verdict(shop: &Shop, runs: &[Run], mutant: &Mutant) -> io::Result<Verdict
             }
         }
     }
-    Ok(Verdict::Alike)
+    Ok(Verdict::Unnoticed)
 }

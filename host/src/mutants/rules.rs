@@ -1,6 +1,6 @@
-//! The versions that were made by hand, one at least for each rule of document 01: host/mutants/rules.txt.
-//! An entry is the sentence in quotes, the file, lines of it after `- `, and after `+ ` as many lines in their places, or any
-//! number in the place of one. A blank line ends it.
+//! The mutants that were made by hand, one at least for each rule of document 01: host/mutants/rules.txt.
+//! An entry is the sentence in quotes, the file, lines of it after `- `, and after `+ ` as many lines in their
+//! places, or any number in the place of one. A blank line ends it.
 use super::Mutant;
 use std::path::Path;
 

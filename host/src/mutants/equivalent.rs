@@ -1,9 +1,9 @@
-//! The versions that are no wrong ones, each with the reason: host/mutants/alike.txt. An entry is the file, the versions
-//! as they are listed, one a line, and the reason, its lines set in. A blank line ends it.
+//! The mutants that do the same as the right code, each with the reason: host/mutants/equivalent.txt. An entry is
+//! the file, the mutants as they are listed, one a line, and the reason, its lines set in. A blank line ends it.
 use super::Mutant;
 use std::collections::BTreeMap;
 
-/// The reason for each version, by its file and how it is listed.
+/// The reason for each mutant, by its file and how it is listed.
 pub struct Reasons(BTreeMap<(String, String), String>);
 
 impl Reasons {
@@ -22,7 +22,7 @@ impl Reasons {
                 .filter(|line| !line.starts_with(' '))
                 .collect();
             if reason.is_empty() || listed.is_empty() || !entry[0].starts_with("crates/") {
-                return Err(format!("expected a file, versions and a reason: {entry:?}"));
+                return Err(format!("expected a file, mutants and a reason: {entry:?}"));
             }
             for shown in listed {
                 reasons.insert((entry[0].to_string(), shown.to_string()), reason.clone());
@@ -39,9 +39,9 @@ impl Reasons {
         self.0.get(&Reasons::key(mutant))
     }
 
-    /// The reasons for versions of a crate that are none of these.
-    pub fn of_none(&self, crates: &[String], alike: &[Mutant]) -> Vec<String> {
-        let alike: Vec<_> = alike.iter().map(Reasons::key).collect();
+    /// The entries for mutants of some crates that are none of these.
+    pub fn of_none(&self, crates: &[String], unnoticed: &[Mutant]) -> Vec<String> {
+        let unnoticed: Vec<_> = unnoticed.iter().map(Reasons::key).collect();
         let of_crates = |file: &str| {
             crates
                 .iter()
@@ -50,7 +50,7 @@ impl Reasons {
         let none = self
             .0
             .keys()
-            .filter(|key| of_crates(&key.0) && !alike.contains(key));
+            .filter(|key| of_crates(&key.0) && !unnoticed.contains(key));
         none.map(|(file, shown)| format!("{file}\n  {shown}"))
             .collect()
     }

@@ -1,16 +1,16 @@
-//! Wrong answers, to see that the tester finds them and shrinks what found them.
+//! Faults that are put into the tester, to see that it finds each of them and shrinks what found it.
 use super::call::{Buffer, Call};
 use super::library::Library;
 use super::model::Model;
 use super::seen::Seen;
-use crate::chain::{PICTURE, PLACES, RECORD};
+use crate::chain::{PAIRS_AT, PICTURE, PLACES, RECORD, ROWS};
 use crate::machine::Machine;
 
-/// Which mistake is made; 0 is none.
+/// Which fault is put in; 0 is none.
 #[derive(Clone, Copy, Debug, PartialEq, Eq)]
-pub struct Wrong(pub usize);
+pub struct Fault(pub usize);
 
-pub const WRONGS: [&str; 12] = [
+pub const FAULTS: [&str; 13] = [
     "row 0's link is taken high byte first",
     "row 23 is never marked",
     "the Z80's private memory ends a byte later",
@@ -23,10 +23,11 @@ pub const WRONGS: [&str; 12] = [
     "a drawing leaves a wrong byte in row 23, on both sides",
     "a store marks row 0 too, on both sides",
     "at 132 columns, 50 Hz, latch 9, reversed, blinking, with an interrupt, it is blanked",
+    "the scroll latch is not taken modulo 16",
 ];
 
-impl Wrong {
-    /// The model's answer, with the mistake.
+impl Fault {
+    /// The model's answer, with the fault.
     pub fn call(self, model: &mut Model, call: &Call) -> Seen {
         match (self.0, call) {
             (1, Call::Draw) => high_byte_first(model),
@@ -44,16 +45,17 @@ impl Wrong {
     fn answer(self, call: &Call, model: &mut Model) -> Seen {
         let mut seen = model.right(call);
         match (self.0, call) {
-            (2, Call::StoreWithPicture { .. }) => seen.value &= !(1 << 23),
+            (2, Call::StoreWithPicture { .. }) => seen.value &= !(1 << (ROWS - 1)),
             (6, Call::WriteShadow { .. }) if seen.refusal == 5 => model.shadow[0] ^= 1,
             (7, Call::Draw) if seen.refusal == 0 => seen.value += 1,
             (12, Call::Blanked) if rare(&model.machine) => seen.value = 1,
+            (13, Call::ScrollLatch) => seen.value = model.machine.latch.into(),
             _ => {}
         }
         seen
     }
 
-    /// Mistakes of the library's side, and some that both sides make alike.
+    /// Faults of the library's side, and some that both sides have.
     pub fn after(self, call: &Call, library: &mut Library, model: &mut Model) {
         let picture = &mut library.buffers[Buffer::Picture as usize];
         match (self.0, call) {
@@ -66,7 +68,7 @@ impl Wrong {
         }
     }
 
-    /// A mistake that both sides make alike in an answer.
+    /// A fault that both sides have in an answer.
     pub fn answered(self, call: &Call, seen: &mut Seen) {
         if let (11, Call::StoreWithPicture { .. }, 0) = (self.0, call, seen.refusal) {
             seen.value |= 1;
@@ -104,7 +106,7 @@ fn high_byte_first(model: &mut Model) -> Seen {
 fn not_underlined(model: &mut Model, call: &Call) -> Seen {
     let kept = model.picture.clone();
     for record in model.picture.chunks_exact_mut(RECORD) {
-        for attribute in record[4..].iter_mut().skip(1).step_by(2) {
+        for attribute in record[PAIRS_AT..].iter_mut().skip(1).step_by(2) {
             *attribute |= 0b1000;
         }
     }
