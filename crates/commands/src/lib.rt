@@ -110,7 +110,8 @@ fn joined(meaning: Meaning, rest: Fit) -> Fit
 
 // A call for each word: a form has no more than 16.
 fn fitted(names: &[u8], number: usize, form: &[u8], line: &[u8]) -> Fit
-    ensures { λ r. ⌜ r ≡ fitted (now (names .entry)) number (words (now (form .entry))) (words (now (line .entry))) ⌝ }
+    ensures { λ r. ⌜ r
+        ≡ fitted (now (names .entry)) number (words (now (form .entry))) (words (now (line .entry))) ⌝ }
 {
     let wanted = words::first_word(form);
     let typed = words::first_word(line);

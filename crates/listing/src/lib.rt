@@ -7,7 +7,8 @@ ghost use Rattle.lent.specs.Lengths.{pictureBytes};
 ghost use Rattle.chain.specs.Chain.{rows};
 ghost use Rattle.picture.specs.Draw.{drawn as drawnPicture};
 ghost use Rattle.ascii.specs.Inner.{Put};
-ghost use Rattle.listing.specs.Listing.{headingMost, lineMost, textBytes, heading, counted, rowAndStart, line, lineOf, linesTo, refusedText, textOf, drawing, listed, listRows};
+ghost use Rattle.listing.specs.Listing.{headingMost, lineMost, textBytes, heading, counted, rowAndStart};
+ghost use Rattle.listing.specs.Listing.{line, lineOf, linesTo, refusedText, textOf, drawing, listed, listRows};
 use ascii::put;
 use ascii::put_byte;
 use ascii::put_decimal;
@@ -156,7 +157,8 @@ pub fn list_rows(
     text: &mut [u8; TEXT_BYTES],
 ) -> usize
     ensures { λ r. ⌜ listed r (now (picture .exit)) (now (text .exit))
-        ≡ listRows (now (screen .entry)) (now (attribute .entry)) beyond (now (picture .entry)) (now (text .entry)) ⌝ }
+        ≡ listRows (now (screen .entry)) (now (attribute .entry)) beyond
+        (now (picture .entry)) (now (text .entry)) ⌝ }
     ensures { λ r. ⌜ (r ≤ length (now (text .exit))) × (r ≡ length (take r (now (text .exit)))) ⌝ }
 {
     let drawn = draw_read(screen, attribute, beyond, picture);

@@ -63,7 +63,7 @@ pub record Stored8088 : Type 0 where
 abbrev pub stored8088 : ℕ → List ℕ → List ℕ → List ℕ → Stored8088
 stored8088 r shared screen attribute = record { refusal = r; shared = shared; screen = screen; attribute = attribute }
 
--- the byte is stored where the 8088 sees the address
+-- the byte is stored where the 8088 sees the address; where it sees none, which is refused, nothing changes
 abbrev pub storeSeen : Seen → (shared screen attribute : List ℕ) → (byte : ℕ) → Stored8088
 storeSeen (Shared place) shared screen attribute byte = stored8088 accepted (set shared place byte) screen attribute
 storeSeen (Screen place) shared screen attribute byte = stored8088 accepted shared (set screen place byte) attribute

@@ -53,7 +53,8 @@ pub fn lengths_8088(shared: usize, screen: usize, attribute: usize) -> bool
 
 // Reads a byte as the 8088 does.
 pub fn read_8088(shared: &[u8], screen: &[u8], attribute: &[u8], address: u32) -> ByteRead
-    ensures { λ r. ⌜ r ≡ read8088 (now (shared .entry)) (now (screen .entry)) (now (attribute .entry)) address ⌝ }
+    ensures { λ r. ⌜ r
+        ≡ read8088 (now (shared .entry)) (now (screen .entry)) (now (attribute .entry)) address ⌝ }
 {
     if !lengths_8088(shared.len(), screen.len(), attribute.len()) {
         return lent::read_refused(lent::LENGTH);

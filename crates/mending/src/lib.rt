@@ -81,9 +81,11 @@ fn mend(columns: usize, screen: &[u8], attribute: &[u8], first: Reader, picture:
     requires { ⌜ Comes (chain columns (now screen) (now attribute)) first ⌝ }
     ensures { λ r. ⌜ r
         ≡ marksOf (now (picture .entry))
-        (mended (chain columns (now (screen .entry)) (now (attribute .entry))) (first .row) (now (picture .entry))) ⌝ }
+        (mended (chain columns (now (screen .entry)) (now (attribute .entry))) (first .row)
+        (now (picture .entry))) ⌝ }
     ensures { λ _. ⌜ now (picture .exit)
-        ≡ mended (chain columns (now (screen .entry)) (now (attribute .entry))) (first .row) (now (picture .entry)) ⌝ }
+        ≡ mended (chain columns (now (screen .entry)) (now (attribute .entry))) (first .row)
+        (now (picture .entry)) ⌝ }
 {
     let mut drawn = [0u8; records::RECORD_BYTES];
     let mut ahead = first.ahead;

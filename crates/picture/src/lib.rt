@@ -39,7 +39,8 @@ fn draw_rows(columns: usize, screen: &[u8], attribute: &[u8], picture: &mut [u8]
     requires { ⌜ length (now picture) ≡ pictureBytes ⌝ }
     requires { ⌜ columns ≤ recordPairs ⌝ }
     ensures { λ r. ⌜ r ≡ walkReads (chain columns (now (screen .entry)) (now (attribute .entry))) ⌝ }
-    ensures { λ _. ⌜ now (picture .exit) ≡ pictureOf (chain columns (now (screen .entry)) (now (attribute .entry))) ⌝ }
+    ensures { λ _. ⌜ now (picture .exit)
+        ≡ pictureOf (chain columns (now (screen .entry)) (now (attribute .entry))) ⌝ }
 {
     let mut ahead = Ahead::Row(Head::first());
     let mut reads = 0;

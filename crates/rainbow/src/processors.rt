@@ -13,7 +13,8 @@ pub extern "C" fn rainbow_read_8088(
     attribute: &[u8],
     address: u32,
 ) -> ByteRead
-    ensures { λ r. ⌜ r ≡ read8088 (now (shared .entry)) (now (screen .entry)) (now (attribute .entry)) address ⌝ }
+    ensures { λ r. ⌜ r
+        ≡ read8088 (now (shared .entry)) (now (screen .entry)) (now (attribute .entry)) address ⌝ }
 {
     memories::read_8088(shared, screen, attribute, address)
 }

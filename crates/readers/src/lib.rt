@@ -38,7 +38,8 @@ fn among(place: usize, start: usize, bytes: usize) -> bool
 // A whole row reads its cells, FF and the link, and beside the cells and the low byte of the link.
 fn whole_reads(seen: Seen, start: usize, cells: usize) -> bool
     requires { ⌜ InMemory seen × ((start < places) × (cells + 3 ≤ places)) ⌝ }
-    ensures { λ r. ⌜ r ≡ readsByte seen (from start (cells + 3)) (from start cells ++ from (start + cells + 1) 1) ⌝ }
+    ensures { λ r. ⌜ r
+        ≡ readsByte seen (from start (cells + 3)) (from start cells ++ from (start + cells + 1) 1) ⌝ }
 {
     match seen {
         Seen::Screen(place) => among(place, start, cells + 3),
@@ -69,7 +70,8 @@ fn pass_row(columns: usize, screen: &[u8], attribute: &[u8], head: Head, seen: S
     requires { ⌜ length (now attribute) ≡ attributeBytes ⌝ }
     requires { ⌜ (columns + 3 ≤ places) × (head .start < places) ⌝ }
     requires { ⌜ InMemory seen ⌝ }
-    ensures { λ r. ⌜ r ≡ passed (chain columns (now (screen .entry)) (now (attribute .entry))) seen (Ahead.Row head) ⌝ }
+    ensures { λ r. ⌜ r
+        ≡ passed (chain columns (now (screen .entry)) (now (attribute .entry))) seen (Ahead.Row head) ⌝ }
 {
     let start = head.start;
     let capacity = chain::capacity(columns, head.kind);

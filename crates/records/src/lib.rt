@@ -164,7 +164,8 @@ fn draw_row(columns: usize, screen: &[u8], attribute: &[u8], head: Head, into: &
     requires { ⌜ length (now attribute) ≡ attributeBytes ⌝ }
     requires { ⌜ (columns ≤ recordPairs) × (head .start < places) ⌝ }
     requires { ⌜ length (now into) ≡ recordBytes ⌝ }
-    ensures { λ r. ⌜ r ≡ walked (chain columns (now (screen .entry)) (now (attribute .entry))) (Ahead.Row head) ⌝ }
+    ensures { λ r. ⌜ r
+        ≡ walked (chain columns (now (screen .entry)) (now (attribute .entry))) (Ahead.Row head) ⌝ }
     ensures { λ _. ⌜ now (into .exit)
         ≡ drawnAhead (chain columns (now (screen .entry)) (now (attribute .entry))) (Ahead.Row head) ⌝ }
 {
