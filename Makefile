@@ -1,40 +1,57 @@
-# make           prove every crate, build and run the programs, list a herd book's screen, and write what the tube shows
-#                of another to target/tube.pgm
-# make test      the gate
-# make check     what can be checked on any machine and is no part of the gate: layout, documents, the model's tests,
-#                what the programs must write, the header (with cargo and C compilers)
-# make docs      the documents against the tree
-# make counts    write the functions of each crate into docs/PROMISES.md
-# make expected  what the programs are given and must write, made again by the model in host/
-# make scripts   the monitor's long scripts, made again from their seeds
-# make png       the tube's picture again as docs/tube.png
-# make compare   the row lister beside the model on 5,000 screens that are hard to walk, the tube on 500 (on x86-64)
-# make mutants   mutants of the code, each against the stored runs (with cargo and rustc); CRATES='a b' for some crates
-# make host      librainbow.a from C, C++ and Rust, each call beside the model (on x86-64, with cargo, a C and a C++
-#                compiler and valgrind)
-# make bench     the library beside plain C, in time and in instructions (on x86-64, with a C compiler and valgrind)
-.PHONY: all test check docs counts expected scripts png compare mutants host bench clean
-.PHONY: model archive header-c header-c++ host-load host-c host-memory
+# make            prove every crate, build and run the programs, list a herd book's screen, and write what the tube shows
+#                 of another to target/tube.pgm; with cargo, also make programs
+# make test       the gate
+#
+# What others use, with cargo:
+# make rust       the library and the programs as a Cargo package, target/rust/rainbow
+# make library    librainbow.a and librainbow.so for this machine, target/library
+# make programs   rows, tube and monitor for this machine, target/native; tools/run runs them
+# make install    headers, library, rainbow.pc and programs to PREFIX (/usr/local); make uninstall takes them away
+# make examples   the examples in C, Rust and Python, run
+#
+# What is tested beside the gate:
+# make check      layout, documents, the model's tests, what the programs must write, the headers, the Cargo package
+# make docs       the documents against the tree
+# make host       the library from C, C++, Rust and Python, each call beside the model; the package, the installation
+# make compare    the row lister beside the model on 5,000 screens that are hard to walk, the tube on 500
+# make mutants    mutants of the code, each against the stored runs; CRATES='a b' for some crates
+# make bench      the library beside plain C, in time and in instructions
+# make emulated   the kit's own archive and programs, which are for x86-64, beside the library of this machine
+#
+# What is made again:
+# make counts     the functions of each crate, in docs/PROMISES.md
+# make expected   what the programs are given and must write, by the model in host/
+# make scripts    the monitor's long scripts, from their seeds
+# make png        the tube's picture, as docs/tube.png
+.PHONY: all test check docs counts expected scripts png compare mutants host bench emulated clean
+.PHONY: rust library programs install uninstall examples python
+.PHONY: model archive kit-library header-c header-c++ package-tests
+.PHONY: host-with host-load host-c host-memory host-more host-both
 
 CARGO ?= cargo
+PYTHON ?= python3
 MODEL = host/target/release
+MACHINE := $(shell uname -m)
+VERSION := $(shell sed -n 's/^.define RAINBOW_VERSION //p' include/rainbow.h)
+SHARED = librainbow.so.$(VERSION)
+PACKAGE = target/rust/rainbow
+PROGRAMS = rows tube monitor
 
-# For make host and make bench. ARCHIVE is the folder of librainbow.a, RUN a command put in front of each program, LINK
-# more words for the linker of C programs. Where the sanitizers or valgrind cannot be had, SANITIZE and VALGRIND may be
-# empty.
-ARCHIVE ?= target/staticlib
-RUN ?=
-LINK ?=
+# Two libraries are made of the same source: target/library by rustc, for the machine at hand, and target/library-kit by
+# the kit's compiler, for x86-64 alone. LIBRARY is the one that a part of make host or make bench tries.
+LIBRARY ?= target/library
+LIBRARIES = target/library $(if $(filter x86_64,$(MACHINE)),target/library-kit)
+ARCHIVE = $(LIBRARY)/librainbow.a
+
+# Where the sanitizers or valgrind cannot be had, SANITIZE and VALGRIND may be empty.
 SANITIZE ?= -fsanitize=address,undefined
 VALGRIND ?= valgrind -q --error-exitcode=1
-COUNT ?= valgrind --tool=callgrind --callgrind-out-file=/dev/null
 CALLS ?= 1000000
-LOAD ?= $(MODEL)/load
-LIBRARY = $(ARCHIVE)/librainbow.a
+LOAD = $(MODEL)/load
 STRICT = -O2 -Iinclude -Wall -Wextra -Wpedantic -Wconversion -Wshadow -Werror
 C = $(CC) -std=c11 $(STRICT)
 CPP = $(CXX) -std=c++17 $(STRICT) -x c++
-FAULTS = 1 2 3 4 5 6 7 8 9 10 11 12 13
+FAULTS = 1 2 3 4 5 6 7 8 9 10 11 12 13 14
 
 # The folder that make expected and make scripts write to.
 INTO ?= crates
@@ -46,6 +63,8 @@ all:
 	@cp target/log/tube.stdout target/tube.pgm
 	@echo
 	@echo 'target/tube.pgm has the picture of the tube'
+	@if command -v $(CARGO) >/dev/null; then $(MAKE) -s programs; \
+	else echo 'no cargo: the programs are for x86-64 alone; tools/run runs them all the same, by the kit'; fi
 
 test:
 	.ci/run
@@ -80,64 +99,172 @@ scripts: model
 png: model
 	$(MODEL)/pgm_to_png < crates/tube/stdout > docs/tube.png
 
-compare: model
+# The Cargo package. That it has the text of crates/ is checked each time.
+rust: model
+	@$(MODEL)/package . $(PACKAGE)
+
+library: rust
+	@$(CARGO) rustc -q --release --lib --crate-type staticlib,cdylib --manifest-path $(PACKAGE)/Cargo.toml \
+		--target-dir target/cargo/library -- --cfg rainbow_c -C link-arg=-Wl,-soname,$(SHARED)
+	@mkdir -p target/library
+	@cp -f target/cargo/library/release/librainbow.a target/library/librainbow.a
+	@cp -f target/cargo/library/release/librainbow.so target/library/$(SHARED)
+	@ln -sf $(SHARED) target/library/librainbow.so
+	@echo 'target/library: librainbow.a, librainbow.so for $(MACHINE), by rustc'
+
+programs: rust
+	@$(CARGO) build -q --release --bins --manifest-path $(PACKAGE)/Cargo.toml --target-dir target/cargo/programs
+	@mkdir -p target/native
+	@for program in $(PROGRAMS); do cp -f target/cargo/programs/release/$$program target/native; done
+	@echo 'target/native: $(PROGRAMS) for $(MACHINE), by rustc'
+
+# The package builds without a warning, and its documentation too; what it shows as an example holds.
+package-tests: rust
+	RUSTFLAGS='-D warnings' $(CARGO) build -q --release --manifest-path $(PACKAGE)/Cargo.toml --target-dir target/cargo/tests
+	RUSTFLAGS='-D warnings' $(CARGO) test -q --release --manifest-path $(PACKAGE)/Cargo.toml --target-dir target/cargo/tests
+	RUSTDOCFLAGS='-D warnings' $(CARGO) doc -q --no-deps --lib --manifest-path $(PACKAGE)/Cargo.toml \
+		--target-dir target/cargo/tests
+
+# The kit's archive, and where it can be linked a shared object of it.
+archive:
+	rt staticlib rainbow
+
+kit-library: archive
+	@mkdir -p target/library-kit
+	@cp -f target/staticlib/librainbow.a target/library-kit
+	$(CC) -shared -Wl,-soname,$(SHARED) -Wl,--whole-archive target/library-kit/librainbow.a -Wl,--no-whole-archive \
+		-o target/library-kit/$(SHARED)
+	@ln -sf $(SHARED) target/library-kit/librainbow.so
+
+PREFIX ?= /usr/local
+DESTDIR ?=
+INTO_PREFIX = $(DESTDIR)$(abspath $(PREFIX))
+HEADERS = rainbow.h rainbow_computer.h
+
+# What was made before is installed as it is, so that a user who may write there needs no cargo.
+install:
+	@test -e target/library/librainbow.a -a -e target/native/monitor || $(MAKE) -s library programs
+	@mkdir -p $(INTO_PREFIX)/include $(INTO_PREFIX)/lib/pkgconfig $(INTO_PREFIX)/bin
+	@for header in $(HEADERS); do install -m 644 include/$$header $(INTO_PREFIX)/include/$$header; done
+	@install -m 644 target/library/librainbow.a $(INTO_PREFIX)/lib/librainbow.a
+	@install -m 755 target/library/$(SHARED) $(INTO_PREFIX)/lib/$(SHARED)
+	@ln -sf $(SHARED) $(INTO_PREFIX)/lib/librainbow.so
+	@sed -e 's|@PREFIX@|$(abspath $(PREFIX))|' -e 's|@VERSION@|$(VERSION)|' include/rainbow.pc.in \
+		> $(INTO_PREFIX)/lib/pkgconfig/rainbow.pc
+	@for program in $(PROGRAMS); do install -m 755 target/native/$$program $(INTO_PREFIX)/bin/rainbow-$$program; done
+	@echo 'installed to $(INTO_PREFIX): include, lib, lib/pkgconfig, and bin with $(PROGRAMS:%=rainbow-%)'
+
+uninstall:
+	@rm -f $(HEADERS:%=$(INTO_PREFIX)/include/%) $(INTO_PREFIX)/lib/librainbow.a $(INTO_PREFIX)/lib/librainbow.so \
+		$(INTO_PREFIX)/lib/$(SHARED) $(INTO_PREFIX)/lib/pkgconfig/rainbow.pc \
+		$(PROGRAMS:%=$(INTO_PREFIX)/bin/rainbow-%)
+	@echo 'taken away from $(INTO_PREFIX)'
+
+examples: library
+	@CC='$(CC)' CARGO='$(CARGO)' PYTHON='$(PYTHON)' tools/examples
+
+python: library
+	$(PYTHON) -W error -m unittest discover -q -s python
+
+compare: model programs
+	$(MODEL)/compare_rows target/native/rows 5000
+	$(MODEL)/compare_tube target/native/tube 500
+ifeq ($(MACHINE),x86_64)
 	rt check rows tube
-	$(MODEL)/compare_rows target/bin/rows 5000
-	$(MODEL)/compare_tube target/bin/tube 500
+	$(MODEL)/compare_rows 'tools/run --kit rows' 5000
+	$(MODEL)/compare_tube 'tools/run --kit tube' 500
+endif
 
 mutants: model
 	$(MODEL)/mutants . $(CRATES)
 
-host: archive
-	$(MAKE) host-load host-c host-memory
+# Every library that this machine can run, each by itself and then beside each other; what is more of rustc's; the
+# package, the installation, the examples and Python.
+host: library programs $(if $(filter x86_64,$(MACHINE)),kit-library)
+	@for library in $(LIBRARIES); do \
+		echo "-- $$library"; $(MAKE) host-with LIBRARY=$$library || exit 1; done
+	$(MAKE) host-more package-tests examples python
+	$(if $(filter x86_64,$(MACHINE)),$(MAKE) host-both)
+	MAKE='$(MAKE)' CC='$(CC)' tools/installed
 
-archive:
-	rt staticlib rainbow
+host-with: host-load host-c host-memory
 
 # A million calls beside the model; and the tester has to find each fault that is put into it, in a script of few calls.
-host-load:
-	RAINBOW_ARCHIVE=$(abspath $(ARCHIVE)) $(CARGO) build -q --release --features linked --manifest-path host/Cargo.toml
-	$(RUN) $(LOAD) --calls $(CALLS)
+host-load: model
+	$(LOAD) --calls $(CALLS) $(LIBRARY)/librainbow.so
 	@mkdir -p target/host
 	@for fault in $(FAULTS); do \
-		$(RUN) $(LOAD) --fault $$fault > target/host/fault.txt; \
+		$(LOAD) --fault $$fault --against $(LIBRARY)/librainbow.so $(LIBRARY)/librainbow.so > target/host/fault.txt; \
 		test $$? -eq 1 || { echo "fault $$fault is not found"; exit 1; }; \
 		test $$(grep -c '^  ' target/host/fault.txt) -le 10 || { echo "fault $$fault is not shrunk"; exit 1; }; \
 	done
 	@echo 'the faults are found: $(FAULTS)'
 
-# The header by itself, twice, and the examples, none of them linked.
+host-both: model
+	$(LOAD) --calls $(CALLS) --against target/library/librainbow.so target/library-kit/librainbow.so
+
+# Each header by itself, twice, and the examples, none of them linked.
 header-c header-c++:
 	@mkdir -p target/host
 	@printf '#include "rainbow.h"\n#include "rainbow.h"\n' > target/host/$@.c
-	$(if $(filter header-c,$@),$(C),$(CPP)) -fsyntax-only target/host/$@.c host/example/*.c
+	@printf '#include "rainbow_computer.h"\n#include "rainbow_computer.h"\n' > target/host/$@-computer.c
+	$(if $(filter header-c,$@),$(C),$(CPP)) -fsyntax-only target/host/$@.c target/host/$@-computer.c \
+		host/example/*.c examples/show.c $(if $(filter header-c,$@),host/serve.c)
 
-# The example run, as C and as C++.
+# The examples run, as C and as C++.
 host-c: header-c header-c++
-	$(C) host/example/example.c $(LIBRARY) $(LINK) -o target/host/example
-	$(RUN) target/host/example > target/host/printed.txt
+	$(C) host/example/example.c $(ARCHIVE) -o target/host/example
+	target/host/example > target/host/printed.txt
 	diff host/example/expected.txt target/host/printed.txt
-	$(CPP) host/example/example.c -x none $(LIBRARY) $(LINK) -o target/host/example++
-	$(RUN) target/host/example++ > target/host/printed.txt
+	$(CPP) host/example/example.c -x none $(ARCHIVE) -o target/host/example++
+	target/host/example++ > target/host/printed.txt
 	diff host/example/expected.txt target/host/printed.txt
-	$(C) host/example/null.c $(LIBRARY) $(LINK) -o target/host/null
-	$(RUN) target/host/null
+	$(C) host/example/null.c $(ARCHIVE) -o target/host/null
+	target/host/null
+	$(C) host/example/computer.c $(ARCHIVE) -o target/host/computer
+	target/host/computer > target/host/printed.txt
+	diff host/example/refusals.txt target/host/printed.txt
+	$(CPP) host/example/computer.c -x none $(ARCHIVE) -o target/host/computer++
+	target/host/computer++ > target/host/printed.txt
+	diff host/example/refusals.txt target/host/printed.txt
 
 # Every access stays inside of the buffers.
-host-memory:
+host-memory: model
 	@mkdir -p target/host
-	$(C) $(SANITIZE) host/example/example.c $(LIBRARY) $(LINK) -o target/host/example-watched
-	$(RUN) target/host/example-watched > target/host/printed.txt
+	$(C) $(SANITIZE) host/example/example.c $(ARCHIVE) -o target/host/example-watched
+	target/host/example-watched > target/host/printed.txt
 	diff host/example/expected.txt target/host/printed.txt
-	$(C) $(SANITIZE) host/example/asan.c $(LIBRARY) $(LINK) -o target/host/asan
-	$(RUN) target/host/asan
-	$(VALGRIND) $(RUN) $(LOAD) --calls 20000
+	$(C) $(SANITIZE) host/example/asan.c $(ARCHIVE) -o target/host/asan
+	target/host/asan
+	$(C) $(SANITIZE) host/example/computer.c $(ARCHIVE) -o target/host/computer-watched
+	target/host/computer-watched > target/host/printed.txt
+	$(VALGRIND) $(LOAD) --calls 20000 $(LIBRARY)/librainbow.so
 
-# COUNT runs a program and tells how many instructions it took.
-bench: archive
+# What rustc's library takes beside what the header asks of a caller.
+host-more: library
+	$(C) host/example/library.c target/library/librainbow.a -o target/host/library
+	target/host/library
+	$(C) $(SANITIZE) host/example/library.c target/library/librainbow.a -o target/host/library-watched
+	target/host/library-watched
+
+# What the kit makes, on any machine that the kit is for: by its emulator if need be, with fewer calls.
+EMULATED_CALLS ?= 200000
+emulated: model archive library programs
 	@mkdir -p target/host
-	$(C) -O3 bench/bench.c bench/plain.c $(LIBRARY) $(LINK) -o target/host/bench
-	RUN='$(RUN)' COUNT='$(COUNT)' bench/table target/host/bench
+	CC='$(CC)' tools/kit compile target/host/serve host/serve.c target/staticlib/librainbow.a
+	$(LOAD) --calls $(EMULATED_CALLS) --against 'run:tools/kit run target/host/serve' target/library/librainbow.so
+	rt check rows tube
+	$(MODEL)/compare_rows 'tools/run --kit rows' 200
+	$(MODEL)/compare_tube 'tools/run --kit tube' 50
+
+bench: library $(if $(filter x86_64,$(MACHINE)),kit-library)
+	@mkdir -p target/host
+	@for library in $(LIBRARIES); do \
+		$(C) -O3 bench/bench.c bench/plain.c $$library/librainbow.a -o target/host/bench || exit 1; \
+		echo "$$library/librainbow.a, by $$(if [ $$library = target/library ]; then rustc --version; \
+			else rt version; fi), beside plain C by $$($(CC) --version | head -n 1), on $(MACHINE):"; \
+		echo; bench/table target/host/bench || exit 1; echo; \
+	done
 
 clean:
 	rm -rf target host/target

@@ -1,10 +1,12 @@
-/* The DEC Rainbow 100's screen, memories and ports: the calls of librainbow.a, for C11 and C++17 on x86-64 Linux.
+/* The DEC Rainbow 100's screen, memories and ports: the calls of librainbow, for C11 and C++17 on 64-bit Linux.
+ * rainbow_computer.h has the same calls on one struct that holds all buffers.
  *
  * Every function here is proved to meet the definition that docs/CALLS.md names, for every number and every byte
  * that it is given. What no proof covers is this file, the compiler behind the proof, and the caller, who must see
  * to this:
  *   - a pointer and the length after it are those of one buffer. A length that is not the one listed below is
- *     refused by 1, and then the pointer is not used: NULL with length 0 is such a length;
+ *     refused by 1, and then the pointer is not used: NULL with length 0 is such a length. (The library that
+ *     `make library` makes refuses NULL by 1 whatever its length is.)
  *   - no buffer that a call may change overlaps another buffer of the same call;
  *   - a bool is true or false, as C makes it.
  *
@@ -26,7 +28,7 @@ extern "C" {
 #endif
 
 /* Raised by every new call and every change of a number, a struct or a rule of this file. rainbow_version() is the
- * archive's own. */
+ * library's own. */
 #define RAINBOW_VERSION 2
 
 /* The length of each buffer, in bytes. */
@@ -107,7 +109,22 @@ typedef struct rainbow_part_place {
     size_t length;
 } rainbow_part_place;
 
-/* RAINBOW_VERSION of the header that the archive was made for. */
+/* The library was made for these sizes, in bytes. A compiler that lays a struct out otherwise stops here. */
+#ifdef __cplusplus
+#define RAINBOW_SIZE(type, bytes) static_assert(sizeof(type) == (bytes), #type " has not " #bytes " bytes")
+#else
+#define RAINBOW_SIZE(type, bytes) _Static_assert(sizeof(type) == (bytes), #type " has not " #bytes " bytes")
+#endif
+RAINBOW_SIZE(size_t, 8);
+RAINBOW_SIZE(bool, 1);
+RAINBOW_SIZE(rainbow_machine, 9);
+RAINBOW_SIZE(rainbow_byte_read, 2);
+RAINBOW_SIZE(rainbow_written, 10);
+RAINBOW_SIZE(rainbow_drawn, 4);
+RAINBOW_SIZE(rainbow_stored, 8);
+RAINBOW_SIZE(rainbow_part_place, 24);
+
+/* RAINBOW_VERSION of the header that the library was made for. */
 uint32_t rainbow_version(void);
 
 /* The machine at power-up: port 0A holds 00, 80 columns, 60 Hz, not interlaced, all else clear. */

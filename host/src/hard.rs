@@ -90,7 +90,10 @@ pub fn written(
     input: &[u8],
     chance: &mut Chance,
 ) -> std::io::Result<(Vec<u8>, String)> {
-    let mut child = Command::new(program)
+    // A program may be a command with words of its own.
+    let mut command = program.split_whitespace();
+    let mut child = Command::new(command.next().unwrap_or_default())
+        .args(command)
         .args(words)
         .stdin(Stdio::piped())
         .stdout(Stdio::piped())

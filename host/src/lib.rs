@@ -5,15 +5,15 @@ pub mod chain;
 pub mod docs;
 pub mod dots;
 pub mod hard;
-#[cfg(feature = "linked")]
 pub mod load;
 pub mod machine;
 pub mod memories;
 pub mod mending;
 pub mod monitor;
 pub mod mutants;
-#[cfg(feature = "linked")]
+pub mod package;
 pub mod rainbow;
+pub mod rattle;
 pub mod sample;
 pub mod scripts;
 pub mod trial;

@@ -1,6 +1,6 @@
 // What a word of a line is to the form's word at the same place.
-use crate::slots;
-use crate::words;
+use super::slots;
+use super::words;
 ghost use Prim.Native.Nat.{_≤_, _<_};
 ghost use mathlib.Core.Path.{_≡_};
 ghost use lib.ListN.{length};
@@ -74,10 +74,10 @@ fn named(names: &[u8], word: &[u8]) -> Meaning
     ensures { λ r. ⌜ r
         ≡ namedFrom (now (names .entry)) (now (word .entry)) 0 (slotCount nameBytes (now (names .entry))) ⌝ }
 {
-    let count = names.len() / crate::NAME_BYTES;
+    let count = names.len() / super::NAME_BYTES;
     let mut at = 0;
     while at < count {
-        let name = words::first_word(slots::slot(crate::NAME_BYTES, names, at));
+        let name = words::first_word(slots::slot(super::NAME_BYTES, names, at));
         if ascii::same(name, word) {
             return Meaning::Number(at);
         }

@@ -1,10 +1,10 @@
 //! Checks the documents against the tree: every definition and every must-fail edit is named, every file, link and
-//! theorem that is named is there, the functions are counted right, what docs/READING.md quotes is quoted right, and no
-//! line is too long.
+//! theorem that is named is there, the functions are counted right, what docs/READING.md quotes is quoted right, and so
+//! are files that a document quotes whole, and no line is too long.
 //! usage: check_docs [--write] ROOT
 //! --write: writes the right counts into docs/PROMISES.md, and checks nothing else.
 use host::docs::{counts, lines};
-use host::mutants::files_of;
+use host::rattle::tree::files_of;
 use std::collections::BTreeSet;
 use std::fs;
 use std::path::{Path, PathBuf};
@@ -169,6 +169,22 @@ fn misquoted(text: &str, tree: &BTreeSet<String>) -> Vec<String> {
     .collect()
 }
 
+/// Quotes of whole files that are not what the file has.
+fn not_the_file(root: &Path, name: &str, text: &str) -> Vec<String> {
+    let document = root.join(name);
+    let folder = document.parent().unwrap_or(root);
+    let mut quotes = lines::quotes(text);
+    quotes.retain(|quote| {
+        fs::read_to_string(folder.join(quote.file)).ok().as_ref() != Some(&quote.text)
+    });
+    let told = quotes.iter();
+    told.map(|quote| {
+        let (line, file) = (quote.number, quote.file);
+        format!("{name} line {line}: what follows is not the text of {file}")
+    })
+    .collect()
+}
+
 /// Lines of a document that are too long.
 fn long(name: &str, text: &str, tree: &BTreeSet<String>) -> Vec<String> {
     let quotes = |line: &str| tree.contains(line);
@@ -194,6 +210,7 @@ fn check(root: &Path) -> Vec<String> {
     problems.extend(misquoted(&read(&root.join(READING)), &tree));
     for (name, text) in documents(root) {
         problems.extend(missing(root, &name, &text));
+        problems.extend(not_the_file(root, &name, &text));
         problems.extend(long(&name, &text, &tree));
     }
     problems

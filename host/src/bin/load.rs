@@ -1,20 +1,25 @@
-//! Makes calls of the linked library and compares each with the model. See --help.
-use host::load::{load, Fault, Tally, FAULTS, FUNCTIONS};
+//! Makes calls of a library and compares each with the model. See --help.
+use host::load::{load, Fault, Tally, Tried, FAULTS};
+use host::rainbow::{Library, FUNCTIONS};
 use std::process::exit;
 use std::time::Instant;
 
-const USAGE: &str = "load [--calls N] [--seed S] [--fault N]";
+const USAGE: &str = "load [--calls N] [--seed S] [--fault N] [--against LIBRARY] LIBRARY";
 
 struct Asked {
     calls: u64,
     seed: u64,
     fault: usize,
+    library: String,
+    against: Option<String>,
 }
 
 fn help() {
     println!("{USAGE}");
-    println!("Makes N calls of librainbow.a (1000000 if not said; a first sweep of some thousands is made");
-    println!("whole), chosen by the seed S, and compares each with a model of document 01.");
+    println!("Makes N calls of a library (1000000 if not said; a first sweep of some thousands is made whole),");
+    println!("chosen by the seed S, and compares each with a model of document 01.");
+    println!("LIBRARY is a librainbow.so, or run: and a command that serves its calls, as host/serve.c does.");
+    println!("--against: makes each call of a second library too, and compares it with the first.");
     println!("Exit status: 0 no difference, 1 a difference, whose shortest script is printed, 2 bad arguments.");
     println!("--fault N: put a fault into the tester, which then has to find a difference:");
     for (number, fault) in (1..).zip(FAULTS) {
@@ -28,24 +33,47 @@ fn asked(words: &[String]) -> Result<Asked, String> {
         calls: 1_000_000,
         seed: 1,
         fault: 0,
+        library: String::new(),
+        against: None,
     };
-    for pair in words.chunks(2) {
-        let name = pair[0].as_str();
-        let number = pair.get(1).and_then(|word| word.parse::<u64>().ok());
+    let mut words = words.iter();
+    while let Some(word) = words.next() {
+        if !word.starts_with("--") && asked.library.is_empty() {
+            asked.library = word.clone();
+            continue;
+        }
+        let value = words.next();
+        let number = value.and_then(|value| value.parse::<u64>().ok());
         let most = FAULTS.len();
-        match (name, number) {
+        match (word.as_str(), number) {
             ("--calls", Some(calls)) => asked.calls = calls,
             ("--seed", Some(seed)) if seed > 0 => asked.seed = seed,
             ("--fault", Some(fault)) if (1..=most as u64).contains(&fault) => {
                 asked.fault = fault as usize;
             }
+            ("--against", _) if value.is_some() => asked.against = value.cloned(),
             ("--calls", _) => return Err("--calls and a number".to_string()),
             ("--seed", _) => return Err("--seed and a number from 1 up".to_string()),
             ("--fault", _) => return Err(format!("--fault and a number from 1 to {most}")),
+            ("--against", _) => return Err("--against and a library".to_string()),
             _ => return Err(USAGE.to_string()),
         }
     }
+    if asked.library.is_empty() {
+        return Err(USAGE.to_string());
+    }
     Ok(asked)
+}
+
+fn give_up(why: impl std::fmt::Display) -> ! {
+    eprintln!("load: {why}");
+    exit(2)
+}
+
+/// A library, for the whole run.
+fn opened(name: &str) -> &'static Library {
+    let library = Library::open(name).unwrap_or_else(|why| give_up(why));
+    Box::leak(Box::new(library))
 }
 
 fn print_tally(tally: &Tally, seconds: f64) {
@@ -67,14 +95,16 @@ fn main() {
     if words.iter().any(|word| word == "--help") {
         return help();
     }
-    let asked = asked(&words).unwrap_or_else(|expected| {
-        eprintln!("load: expected {expected}");
-        exit(2);
-    });
+    let asked = asked(&words).unwrap_or_else(|expected| give_up(format!("expected {expected}")));
+    let tried = Tried {
+        library: opened(&asked.library),
+        second: asked.against.as_deref().map(opened),
+        fault: Fault(asked.fault),
+    };
     let begun = Instant::now();
     // A seed of few bits would begin with numbers of few bits.
     let seed = asked.seed.wrapping_mul(0x9E37_79B9_7F4A_7C15) | 1;
-    match load(asked.calls, seed, Fault(asked.fault)) {
+    match load(asked.calls, seed, tried) {
         Ok(tally) => print_tally(&tally, begun.elapsed().as_secs_f64()),
         Err(script) => {
             println!("{script}");

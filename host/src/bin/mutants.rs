@@ -1,9 +1,10 @@
 //! Makes mutants of the code and runs each, unproved, against the stored runs. Says which no run notices.
 //! usage: mutants ROOT [CRATE...]
-use host::mutants::build::{Shop, Tree};
+use host::mutants::build::Shop;
 use host::mutants::equivalent::Reasons;
 use host::mutants::noticed::{verdict, Run, Verdict, CRASH, ENDLESS};
-use host::mutants::{files_of, of_file, rules, Mutant};
+use host::mutants::{of_file, rules, Mutant};
+use host::rattle::tree::{files_of, Tree};
 use std::fs;
 use std::path::{Path, PathBuf};
 use std::process::exit;

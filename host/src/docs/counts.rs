@@ -1,6 +1,6 @@
 //! The counts of docs/PROMISES.md: a table with a row for each crate, and a sentence with the sums. A row is found by
 //! the name of its crate and the column by its heading, so the table may be edited.
-use crate::mutants::code;
+use crate::rattle::code;
 use std::ops::Range;
 
 const COLUMN: &str = "Functions proved";

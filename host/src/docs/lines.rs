@@ -50,6 +50,39 @@ pub fn long<'a>(text: &'a str, quotes: impl Fn(&str) -> bool) -> Vec<Line<'a>> {
     lines
 }
 
+/// A file that a document quotes whole: its link ends a line with a colon, and after a blank line comes the quote.
+pub struct Quote<'a> {
+    pub number: usize,
+    pub file: &'a str,
+    /// What is quoted, without the four blanks ahead of each line.
+    pub text: String,
+}
+
+pub fn quotes(text: &str) -> Vec<Quote<'_>> {
+    let lines = lines(text);
+    let mut quotes = Vec::new();
+    for (at, line) in lines.iter().enumerate() {
+        let file = match line
+            .text
+            .strip_suffix("):")
+            .and_then(|line| line.rsplit_once("]("))
+        {
+            Some((_, file)) if !line.is_code && !file.contains(')') => file,
+            _ => continue,
+        };
+        let is_quoted = |line: &&Line| line.is_code || line.text.trim().is_empty();
+        let quoted = lines[at + 1..].iter().take_while(is_quoted);
+        let quoted = quoted.map(|line| line.text.strip_prefix("    ").unwrap_or(line.text));
+        let text = quoted.collect::<Vec<_>>().join("\n");
+        quotes.push(Quote {
+            number: line.number,
+            file,
+            text: format!("{}\n", text.trim_matches('\n')),
+        });
+    }
+    quotes
+}
+
 /// The files that a document links, without the places in them.
 pub fn links(text: &str) -> Vec<&str> {
     let ends = |rest: &str| rest.find([')', '#']).unwrap_or(0);
@@ -82,6 +115,15 @@ mod tests {
             "{fits}\n{over}\n\n| {over} |\n\n    {over}\n\n    {over}x\n\n1. item\n    {over}\n"
         );
         assert_eq!(numbers(&long(&text, |line| line == over)), [2, 8, 11]);
+    }
+
+    #[test]
+    fn quoted_files() {
+        let text = "This is\n[a](a.c):\n\n    int a;\n\n        b\n\ntext, as [d](d.c).\n";
+        let quotes = quotes(text);
+        assert_eq!(quotes.len(), 1);
+        assert_eq!((quotes[0].number, quotes[0].file), (2, "a.c"));
+        assert_eq!(quotes[0].text, "int a;\n\n    b\n");
     }
 
     #[test]

@@ -3,6 +3,7 @@ use crate::chain::PICTURE;
 use crate::dots::{GLYPHS, LINE};
 use crate::machine::Machine;
 use crate::memories::{ATTRIBUTE, NVM, PRIVATE, SCREEN, SHADOW, SHARED};
+use crate::rainbow::FUNCTIONS;
 
 /// A lent buffer. `Spare` is a second picture, to draw afresh beside the kept one.
 #[derive(Clone, Copy, Debug, PartialEq, Eq)]
@@ -130,29 +131,6 @@ pub enum Call {
     StrewPicture { seed: u64 },
     OtherPicture { seed: u64 },
 }
-
-pub const FUNCTIONS: [&str; 20] = [
-    "version",
-    "power_up",
-    "vertical_tick",
-    "columns",
-    "blanked",
-    "graphics",
-    "scroll_latch",
-    "dots_of_line",
-    "write_port",
-    "read_8088",
-    "store_8088",
-    "read_z80",
-    "store_z80",
-    "read_shadow",
-    "write_shadow",
-    "draw",
-    "store_with_picture",
-    "is_marked",
-    "glyph_part",
-    "scan_line",
-];
 
 impl Call {
     /// The function called, by its number in the list; none for a change by hand.

@@ -2,15 +2,15 @@
 use super::call::{Buffer, Call};
 use super::library::Library;
 use super::model::Model;
-use super::seen::Seen;
 use crate::chain::{PAIRS_AT, PICTURE, PLACES, RECORD, ROWS};
 use crate::machine::Machine;
+use crate::rainbow::Seen;
 
 /// Which fault is put in; 0 is none.
 #[derive(Clone, Copy, Debug, PartialEq, Eq)]
 pub struct Fault(pub usize);
 
-pub const FAULTS: [&str; 13] = [
+pub const FAULTS: [&str; 14] = [
     "row 0's link is taken high byte first",
     "row 23 is never marked",
     "the Z80's private memory ends a byte later",
@@ -24,6 +24,7 @@ pub const FAULTS: [&str; 13] = [
     "a store marks row 0 too, on both sides",
     "at 132 columns, 50 Hz, latch 9, reversed, blinking, with an interrupt, it is blanked",
     "the scroll latch is not taken modulo 16",
+    "the second library has 1,187 dots in a line at 132 columns (with --against)",
 ];
 
 impl Fault {
@@ -65,6 +66,13 @@ impl Fault {
                 model.picture[PICTURE - 1] = 0x0D;
             }
             _ => {}
+        }
+    }
+
+    /// A fault of the second library.
+    pub fn of_second(self, call: &Call, seen: &mut Seen) {
+        if let (14, Call::DotsOfLine, 1188) = (self.0, call, seen.value) {
+            seen.value = 1187;
         }
     }
 

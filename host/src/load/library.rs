@@ -1,9 +1,10 @@
-//! The library's side: its own copy of the buffers, with guard bytes around each, and its own machine.
-use super::call::{Buffer, Call, Lengths, Lent, Step, BUFFERS};
+//! The side of a library: its own copy of the buffers, with guard bytes around each, and its own machine.
+use super::call::{Buffer, Call, Lent, Step, BUFFERS};
 use super::model::Model;
-use super::seen::{mirrored, Seen};
+use super::seen::mirrored;
+use super::words::numbers;
 use crate::chain::RECORD;
-use crate::rainbow;
+use crate::rainbow::{self, Request, Seen};
 
 const GUARD: usize = 64;
 
@@ -70,14 +71,16 @@ impl Guarded {
 pub struct Library {
     pub buffers: [Guarded; BUFFERS.len()],
     pub machine: rainbow::Machine,
+    calls: &'static rainbow::Library,
 }
 
 impl Library {
     /// The model's memories and machine again.
-    pub fn new(model: &Model) -> Self {
+    pub fn new(model: &Model, calls: &'static rainbow::Library) -> Self {
         Self {
             buffers: BUFFERS.map(|buffer| Guarded::new(buffer, model.bytes(buffer))),
             machine: mirrored(&model.machine),
+            calls,
         }
     }
 
@@ -86,144 +89,56 @@ impl Library {
     }
 
     /// Makes the call. A machine that comes back is the machine from then on, but for power-up's.
-    pub fn call(&mut self, step: &Step) -> Seen {
-        let machine = self.machine;
-        match step.call {
-            Call::Version => Seen::value(rainbow::version()),
-            Call::PowerUp => Seen::machine(0, rainbow::power_up()),
-            Call::VerticalTick => {
-                self.machine = machine.vertical_tick();
-                Seen::machine(0, self.machine)
-            }
-            Call::Columns => Seen::value(machine.columns()),
-            Call::Blanked => Seen::value(machine.blanked()),
-            Call::Graphics => Seen::value(machine.graphics()),
-            Call::ScrollLatch => Seen::value(machine.scroll_latch()),
-            Call::DotsOfLine => Seen::value(machine.dots_of_line()),
-            Call::IsMarked { marks, row } => Seen::value(rainbow::is_marked(marks, row)),
-            _ => self.lending_call(&step.call, &step.lent),
+    pub fn call(&mut self, step: &Step) -> Result<Seen, String> {
+        let function = step.call.function().expect("a call of the library");
+        let mut given = [0; 2];
+        for (place, (_, number)) in given.iter_mut().zip(numbers(&step.call)) {
+            *place = number;
         }
-    }
-
-    fn lending_call(&mut self, call: &Call, lent: &Lengths) -> Seen {
-        match *call {
-            Call::WritePort { port, code } => self.write_port(lent, port, code),
-            Call::Draw => self.draw(lent, Buffer::Picture),
-            Call::DrawAfresh => self.draw(lent, Buffer::Spare),
-            Call::GlyphPart { code } => self.glyph_part(lent, code),
-            Call::ScanLine { row, scan } => self.scan_line(lent, row, scan),
-            Call::ReadShadow { place } => {
-                let read = rainbow::read_shadow(self.lend(lent, Buffer::Shadow).as_deref(), place);
-                Seen::answer(read.refusal, read.byte)
-            }
-            Call::WriteShadow { place, value } => {
-                let shadow = self.lend(lent, Buffer::Shadow);
-                Seen::refusal(rainbow::write_shadow(shadow, place, value))
-            }
-            _ => self.memory_call(call, lent),
+        let mut all: Vec<Option<&mut Guarded>> = self.buffers.iter_mut().map(Some).collect();
+        let buffers = step.call.buffers().iter();
+        let lent = buffers.map(|buffer| {
+            let one = all[*buffer as usize].take();
+            one.expect("each is lent once").lend(step.lent.of(*buffer))
+        });
+        let seen = self.calls.call(Request {
+            function,
+            machine: self.machine,
+            lent: lent.collect(),
+            numbers: given,
+        })?;
+        if let Call::VerticalTick | Call::WritePort { .. } = step.call {
+            self.machine = seen.machine;
         }
+        Ok(seen)
     }
 
-    fn memory_call(&mut self, call: &Call, lent: &Lengths) -> Seen {
-        let machine = self.machine;
-        let [shared, private, screen, attribute, _, _, _, picture, _, _] = &mut self.buffers;
-        let shared = shared.lend(lent.of(Buffer::Shared));
-        let private = private.lend(lent.of(Buffer::Private));
-        let screen = screen.lend(lent.of(Buffer::Screen));
-        let attribute = attribute.lend(lent.of(Buffer::Attribute));
-        let picture = picture.lend(lent.of(Buffer::Picture));
-        match *call {
-            Call::Read8088 { address } => {
-                let (shared, screen) = (shared.as_deref(), screen.as_deref());
-                let read = rainbow::read_8088(shared, screen, attribute.as_deref(), address);
-                Seen::answer(read.refusal, read.byte)
-            }
-            Call::Store8088 { address, byte } => Seen::refusal(rainbow::store_8088(
-                shared, screen, attribute, address, byte,
-            )),
-            Call::ReadZ80 { address } => {
-                let read = rainbow::read_z80(private.as_deref(), shared.as_deref(), address);
-                Seen::answer(read.refusal, read.byte)
-            }
-            Call::StoreZ80 { address, byte } => {
-                Seen::refusal(rainbow::store_z80(private, shared, address, byte))
-            }
-            Call::StoreWithPicture { address, byte } => {
-                let stored = rainbow::store_with_picture(
-                    machine, shared, screen, attribute, picture, address, byte,
-                );
-                Seen::answer(stored.refusal, stored.marks)
-            }
-            _ => unreachable!("no call of the memories: {call:?}"),
-        }
-    }
-
-    fn lend(&mut self, lent: &Lengths, buffer: Buffer) -> Option<&mut [u8]> {
-        self.buffers[buffer as usize].lend(lent.of(buffer))
-    }
-
-    fn write_port(&mut self, lent: &Lengths, port: u16, code: u8) -> Seen {
-        let [_, _, _, _, _, nvm, shadow, _, _, _] = &mut self.buffers;
-        let shadow = shadow.lend(lent.of(Buffer::Shadow));
-        let nvm = nvm.lend(lent.of(Buffer::Nvm));
-        let written = rainbow::write_port(self.machine, shadow, nvm, port, code);
-        self.machine = written.machine;
-        Seen::machine(written.refusal, written.machine)
-    }
-
-    fn draw(&mut self, lent: &Lengths, into: Buffer) -> Seen {
-        let [_, _, screen, attribute, _, _, _, picture, _, spare] = &mut self.buffers;
-        let screen = screen.lend(lent.of(Buffer::Screen));
-        let attribute = attribute.lend(lent.of(Buffer::Attribute));
-        let drawn_to = if into == Buffer::Spare {
-            spare
-        } else {
-            picture
-        };
-        let picture = drawn_to.lend(lent.of(into));
-        let (screen, attribute) = (screen.as_deref(), attribute.as_deref());
-        let drawn = rainbow::draw(self.machine, screen, attribute, picture);
-        Seen::answer(drawn.refusal, drawn.reads)
-    }
-
-    fn glyph_part(&mut self, lent: &Lengths, code: u8) -> Seen {
-        let table = self.lend(lent, Buffer::Table);
-        let part = rainbow::glyph_part(table.as_deref(), code);
-        Seen {
-            length: part.length as u64,
-            ..Seen::answer(part.refusal, part.at)
-        }
-    }
-
-    fn scan_line(&mut self, lent: &Lengths, row: usize, scan: usize) -> Seen {
-        let [_, _, _, _, table, _, _, picture, line, _] = &mut self.buffers;
-        let table = table.lend(lent.of(Buffer::Table));
-        let picture = picture.lend(lent.of(Buffer::Picture));
-        let line = line.lend(lent.of(Buffer::Line));
-        let (picture, table) = (picture.as_deref(), table.as_deref());
-        let machine = self.machine;
-        Seen::refusal(rainbow::scan_line(machine, picture, table, row, scan, line))
-    }
-
-    /// The first byte of a buffer, or beside it, that is not as the model has it.
-    pub fn differs(&self, buffer: Buffer, model: &[u8], far: bool) -> Option<String> {
+    /// The first byte of a buffer, or beside it, that is not as another side has it. `sides` are the names of the
+    /// other and of this one.
+    pub fn differs(
+        &self,
+        buffer: Buffer,
+        other: &[u8],
+        far: bool,
+        sides: [&str; 2],
+    ) -> Option<String> {
         let guarded = &self.buffers[buffer as usize];
         let name = buffer.name();
         if let Some(place) = guarded.broken(far) {
             return Some(format!("{name}: a byte outside of it changed, {place}"));
         }
         let ours = guarded.content();
-        if ours == model {
+        if ours == other {
             return None;
         }
-        let place = (0..model.len()).find(|place| ours[*place] != model[*place])?;
-        let (model, library) = (model[place], ours[place]);
+        let place = (0..other.len()).find(|place| ours[*place] != other[*place])?;
+        let ([that, this], theirs, mine) = (sides, other[place], ours[place]);
         let row = match buffer {
             Buffer::Picture | Buffer::Spare => format!(" (row {:X})", place / RECORD),
             _ => String::new(),
         };
         Some(format!(
-            "{name} at {place:X}{row}: model {model:02X}, library {library:02X}"
+            "{name} at {place:X}{row}: {that} {theirs:02X}, {this} {mine:02X}"
         ))
     }
 }

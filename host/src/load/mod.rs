@@ -1,5 +1,5 @@
-//! Drives the linked library and the model of document 01 with the same calls, and compares what each answers
-//! and every byte that each was lent.
+//! Drives a library and the model of document 01 with the same calls, and compares what each answers and every byte that
+//! each was lent.
 mod aim;
 mod call;
 mod choose;
@@ -13,11 +13,12 @@ mod sweep;
 mod words;
 mod world;
 
-pub use call::FUNCTIONS;
 pub use fault::{Fault, FAULTS};
 pub use shrink::Script;
+pub use sides::Tried;
 
 use crate::hard::Chance;
+use crate::rainbow::FUNCTIONS;
 use crate::REFUSALS;
 use call::{Call, Step};
 use sides::Sides;
@@ -50,18 +51,18 @@ struct Run<'a> {
     world: World,
     sides: Sides,
     steps: Vec<Step>,
-    fault: Fault,
+    tried: Tried,
     tally: &'a mut Tally,
 }
 
 impl<'a> Run<'a> {
-    fn new(chance: &mut Chance, fault: Fault, tally: &'a mut Tally) -> Self {
+    fn new(chance: &mut Chance, tried: Tried, tally: &'a mut Tally) -> Self {
         let world = World::any(chance);
         Self {
             world,
-            sides: Sides::new(&world, fault),
+            sides: Sides::new(&world, tried),
             steps: Vec::new(),
-            fault,
+            tried,
             tally,
         }
     }
@@ -81,7 +82,7 @@ impl<'a> Run<'a> {
     }
 
     fn script(&self) -> Script {
-        shrink::shrunk(self.world, &self.steps, self.fault)
+        shrink::shrunk(self.world, &self.steps, self.tried)
             .expect("the same calls end in a difference again")
     }
 }
@@ -90,13 +91,13 @@ impl<'a> Run<'a> {
 const THREADS: u64 = 2;
 
 /// Makes the calls of the sweep, and then calls by chance until there have been so many.
-pub fn load(calls: u64, seed: u64, fault: Fault) -> Result<Tally, Script> {
-    let mut tally = sweep_all(&mut Chance(seed), fault)?;
+pub fn load(calls: u64, seed: u64, tried: Tried) -> Result<Tally, Script> {
+    let mut tally = sweep_all(&mut Chance(seed), tried)?;
     let each = calls.saturating_sub(tally.total()) / THREADS;
     let threads: Vec<_> = (1..=THREADS)
         .map(|thread| {
             let seed = seed.rotate_left(16 * thread as u32);
-            spawn(move || by_chance(each, &mut Chance(seed), fault))
+            spawn(move || by_chance(each, &mut Chance(seed), tried))
         })
         .collect();
     for thread in threads {
@@ -105,20 +106,20 @@ pub fn load(calls: u64, seed: u64, fault: Fault) -> Result<Tally, Script> {
     Ok(tally)
 }
 
-fn sweep_all(chance: &mut Chance, fault: Fault) -> Result<Tally, Script> {
+fn sweep_all(chance: &mut Chance, tried: Tried) -> Result<Tally, Script> {
     let mut tally = Tally::default();
     for steps in sweep::pieces() {
-        let mut run = Run::new(chance, fault, &mut tally);
+        let mut run = Run::new(chance, tried, &mut tally);
         steps.into_iter().try_for_each(|step| run.step(step))?;
         run.end()?;
     }
     Ok(tally)
 }
 
-fn by_chance(calls: u64, chance: &mut Chance, fault: Fault) -> Result<Tally, Script> {
+fn by_chance(calls: u64, chance: &mut Chance, tried: Tried) -> Result<Tally, Script> {
     let mut tally = Tally::default();
     while tally.total() < calls {
-        let mut run = Run::new(chance, fault, &mut tally);
+        let mut run = Run::new(chance, tried, &mut tally);
         let true_run = chance.below(2) == 0;
         for _ in 0..100 + chance.below(300) {
             let step = choose::step(chance, &run.sides, true_run);

@@ -2,12 +2,13 @@
 use super::call::{Buffer, Call, Lengths, Step, BUFFERS};
 use super::fault::Fault;
 use super::library::guard;
-use super::seen::{mirrored, Seen};
+use super::seen::mirrored;
 use crate::chain::{self, PICTURE};
 use crate::dots;
 use crate::machine::Machine;
 use crate::memories::{self, View8088};
-use crate::{mending, rainbow, refusal, Answer};
+use crate::rainbow::{self, Seen};
+use crate::{mending, refusal, Answer};
 
 #[derive(Clone)]
 pub struct Model {

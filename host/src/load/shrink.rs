@@ -1,7 +1,6 @@
 //! Makes the calls that ended in a difference as few and as plain as they can be while there is one.
 use super::call::{Call, Lent, Step};
-use super::fault::Fault;
-use super::sides::{Differs, Sides};
+use super::sides::{Differs, Sides, Tried};
 use super::words::words;
 use super::world::{Kind, World};
 use crate::machine::Machine;
@@ -36,8 +35,8 @@ struct Trial {
 }
 
 impl Trial {
-    fn new(world: World, fault: Fault) -> Self {
-        let fresh = Sides::new(&world, fault);
+    fn new(world: World, tried: Tried) -> Self {
+        let fresh = Sides::new(&world, tried);
         Self { world, fresh }
     }
 
@@ -60,15 +59,15 @@ impl Trial {
 }
 
 /// The shortest script that removing and simplifying comes to.
-pub fn shrunk(world: World, steps: &[Step], fault: Fault) -> Option<Script> {
-    let trial = Trial::new(world, fault);
+pub fn shrunk(world: World, steps: &[Step], tried: Tried) -> Option<Script> {
+    let trial = Trial::new(world, tried);
     let script = fewer(&trial, trial.script(steps)?);
     let script = plainer(&trial, script);
     let blank = World {
         kind: Kind::Blank,
         ..world
     };
-    let blank = Trial::new(blank, fault);
+    let blank = Trial::new(blank, tried);
     match blank.script(&script.steps) {
         Some(script) => Some(plainer(&blank, fewer(&blank, script))),
         None => Some(script),

@@ -1,18 +1,28 @@
-//! The library and the model side by side, given the same calls.
+//! The library and the model side by side, given the same calls, and a second library beside the first.
 use super::call::{Buffer, Call, Step, BUFFERS};
 use super::fault::Fault;
 use super::library::Library;
 use super::model::Model;
-use super::seen::{mirrored, Seen};
+use super::seen::mirrored;
 use super::words::answered;
 use super::world::{self, World};
 use crate::chain::{self, PICTURE, RECORD};
 use crate::hard::Chance;
+use crate::rainbow::{self, Seen};
+
+/// What is tried: a library beside the model, and a second library beside the first if there is one.
+#[derive(Clone, Copy)]
+pub struct Tried {
+    pub library: &'static rainbow::Library,
+    pub second: Option<&'static rainbow::Library>,
+    pub fault: Fault,
+}
 
 #[derive(Clone)]
 pub struct Sides {
     pub model: Model,
     pub library: Library,
+    second: Option<Library>,
     /// The picture has been drawn, and nothing has been done since that demand 3's runs do not hold.
     pub kept: bool,
     fault: Fault,
@@ -22,19 +32,27 @@ pub struct Sides {
 /// What differed.
 pub type Differs = String;
 
+const NAMES: [&str; 2] = ["model", "library"];
+const LIBRARIES: [&str; 2] = ["library", "second library"];
+
+fn same(differs: Option<Differs>) -> Result<(), Differs> {
+    differs.map_or(Ok(()), Err)
+}
+
 impl Sides {
-    pub fn new(world: &World, fault: Fault) -> Self {
+    pub fn new(world: &World, tried: Tried) -> Self {
         let model = world.model();
         Self {
-            library: Library::new(&model),
+            library: Library::new(&model, tried.library),
+            second: tried.second.map(|second| Library::new(&model, second)),
             model,
             kept: false,
-            fault,
+            fault: tried.fault,
             before: vec![0; PICTURE],
         }
     }
 
-    /// Makes a call on both sides and compares all that it may have changed.
+    /// Makes a call on all sides and compares all that it may have changed.
     pub fn step(&mut self, step: &Step) -> Result<Seen, Differs> {
         if step.call.function().is_none() {
             self.by_hand(&step.call);
@@ -44,18 +62,16 @@ impl Sides {
         self.before
             .copy_from_slice(self.library.content(Buffer::Picture));
         let mut model = self.model.call(step, self.fault);
-        let mut library = self.library.call(step);
+        let mut library = self.library.call(step)?;
         self.put_fault(&step.call, [&mut model, &mut library]);
-        match library.difference(&model, answered(&step.call)) {
-            Some(differs) => Err(differs),
-            None => Ok(()),
-        }?;
+        same(library.difference(&model, answered(&step.call), NAMES))?;
         for buffer in step.call.buffers() {
             self.compare(*buffer, !step.whole())?;
         }
         if self.library.machine != mirrored(&self.model.machine) {
             return Err("the machine".to_string());
         }
+        self.beside(step, &library)?;
         self.demands(&step.call, &library)?;
         let accepted = library.refusal == 0;
         self.kept = match step.call {
@@ -73,11 +89,34 @@ impl Sides {
         }
     }
 
+    /// Makes the call of the second library and compares it with the first.
+    fn beside(&mut self, step: &Step, first: &Seen) -> Result<(), Differs> {
+        let second = match &mut self.second {
+            Some(second) => second,
+            None => return Ok(()),
+        };
+        let mut seen = second.call(step)?;
+        self.fault.of_second(&step.call, &mut seen);
+        same(seen.difference(first, answered(&step.call), LIBRARIES))?;
+        for buffer in step.call.buffers() {
+            let bytes = self.library.content(*buffer);
+            same(second.differs(*buffer, bytes, !step.whole(), LIBRARIES))?;
+        }
+        if second.machine != self.library.machine {
+            return Err("the machine of the second library".to_string());
+        }
+        Ok(())
+    }
+
     fn compare(&self, buffer: Buffer, far: bool) -> Result<(), Differs> {
         let model = self.model.bytes(buffer);
-        match self.library.differs(buffer, model, far) {
-            Some(differs) => Err(differs),
-            None => Ok(()),
+        same(self.library.differs(buffer, model, far, NAMES))?;
+        match &self.second {
+            Some(second) if far => {
+                let bytes = self.library.content(buffer);
+                same(second.differs(buffer, bytes, far, LIBRARIES))
+            }
+            _ => Ok(()),
         }
     }
 
@@ -119,10 +158,7 @@ impl Sides {
     fn by_hand(&mut self, call: &Call) {
         self.kept = false;
         match *call {
-            Call::SetMachine(machine) => {
-                self.model.machine = machine;
-                self.library.machine = mirrored(&machine);
-            }
+            Call::SetMachine(machine) => self.model.machine = machine,
             Call::AlterPicture { place, byte } => self.model.picture[place] = byte,
             Call::StrewPicture { seed } => {
                 let mut chance = Chance(seed);
@@ -137,7 +173,11 @@ impl Sides {
             }
             _ => {}
         }
-        let picture = self.library.buffers[Buffer::Picture as usize].content_mut();
-        picture.copy_from_slice(&self.model.picture);
+        let libraries = [Some(&mut self.library), self.second.as_mut()];
+        for library in libraries.into_iter().flatten() {
+            library.machine = mirrored(&self.model.machine);
+            let picture = library.buffers[Buffer::Picture as usize].content_mut();
+            picture.copy_from_slice(&self.model.picture);
+        }
     }
 }

@@ -1,8 +1,9 @@
 //! A script in words: one call a line, its numbers in hex.
-use super::call::{Call, Lent, Step, FUNCTIONS};
+use super::call::{Call, Lent, Step};
+use crate::rainbow::FUNCTIONS;
 
-/// The call's numbers, each with its name.
-fn numbers(call: &Call) -> Vec<(&'static str, u64)> {
+/// The call's numbers, each with its name, in the header's order.
+pub fn numbers(call: &Call) -> Vec<(&'static str, u64)> {
     match *call {
         Call::WritePort { port, code } => vec![("port", port.into()), ("code", code.into())],
         Call::Read8088 { address } => vec![("address", address.into())],

@@ -1,71 +1,11 @@
 //! Builds the programs from the code, unproved, by rustc.
-use super::{code, files_of, kit, Mutant};
+use super::Mutant;
+use crate::rattle::tree::{files_of, Crate, Tree};
+use crate::rattle::{code, kit};
 use std::fs;
 use std::io;
 use std::path::{Path, PathBuf};
 use std::process::{Command, Stdio};
-
-#[derive(Clone)]
-pub struct Crate {
-    pub name: String,
-    pub needs: Vec<String>,
-    pub is_program: bool,
-}
-
-/// The crates that programs are made of, each after what it needs.
-pub struct Tree {
-    pub crates: Vec<Crate>,
-}
-
-impl Tree {
-    /// Reads crates.txt, for some programs.
-    pub fn of(root: &Path, programs: &[&str]) -> io::Result<Tree> {
-        let text = fs::read_to_string(root.join("crates.txt"))?;
-        let lines = text.lines().filter(|line| !line.starts_with('#'));
-        let listed: Vec<(&str, Vec<&str>)> = lines
-            .filter_map(|line| line.split_once(':'))
-            .map(|(name, needs)| (name, needs.split_whitespace().collect()))
-            .collect();
-        let mut crates = Vec::new();
-        for program in programs {
-            visit(program, &listed, &mut crates);
-        }
-        for one in &mut crates {
-            one.is_program = programs.contains(&one.name.as_str());
-        }
-        Ok(Tree { crates })
-    }
-
-    pub fn libraries(&self) -> impl Iterator<Item = &Crate> {
-        self.crates.iter().filter(|one| !one.is_program)
-    }
-
-    /// A crate and all that is made of it, each after what it needs.
-    pub fn made_of(&self, name: &str) -> Vec<&Crate> {
-        let mut made: Vec<&Crate> = Vec::new();
-        for one in &self.crates {
-            if one.name == name || made.iter().any(|below| one.needs.contains(&below.name)) {
-                made.push(one);
-            }
-        }
-        made
-    }
-}
-
-fn visit(name: &str, listed: &[(&str, Vec<&str>)], crates: &mut Vec<Crate>) {
-    let needs = match listed.iter().find(|(one, _)| *one == name) {
-        Some((_, needs)) if crates.iter().all(|one| one.name != name) => needs,
-        _ => return,
-    };
-    for need in needs {
-        visit(need, listed, crates);
-    }
-    crates.push(Crate {
-        name: name.to_string(),
-        needs: needs.iter().map(|need| need.to_string()).collect(),
-        is_program: false,
-    });
-}
 
 /// A folder with the code as Rust, and what was built of it.
 pub struct Shop<'a> {

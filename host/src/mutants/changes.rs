@@ -1,6 +1,6 @@
 //! The small changes that are made to code: another sign, another number, a value turned round, two arguments
 //! swapped, a statement left out.
-use super::code::{Kind, Token};
+use crate::rattle::code::{Kind, Token};
 use std::ops::Range;
 
 pub struct Change {
@@ -194,7 +194,7 @@ pub fn changes(text: &str, tokens: &[Token]) -> Vec<Change> {
 #[cfg(test)]
 mod tests {
     use super::*;
-    use crate::mutants::code;
+    use crate::rattle::code;
 
     fn shown(text: &str) -> Vec<String> {
         changes(text, &code::tokens(text))

@@ -2,14 +2,12 @@
 //! The code without its contracts is Rust, so a mutant is built by rustc.
 pub mod build;
 pub mod changes;
-pub mod code;
 pub mod equivalent;
-pub mod kit;
 pub mod noticed;
 pub mod rules;
 
+use crate::rattle::code;
 use std::collections::HashMap;
-use std::path::Path;
 
 /// One file of a crate, changed.
 #[derive(Clone)]
@@ -65,17 +63,4 @@ pub fn of_file(crate_name: &str, file: &str, text: &str) -> Vec<Mutant> {
         });
     }
     mutants
-}
-
-/// The source files of a crate, below the repository's root.
-pub fn files_of(root: &Path, crate_name: &str) -> std::io::Result<Vec<String>> {
-    let mut files = Vec::new();
-    for entry in std::fs::read_dir(root.join("crates").join(crate_name).join("src"))? {
-        let name = entry?.file_name().into_string().unwrap_or_default();
-        if name.ends_with(".rt") {
-            files.push(format!("crates/{crate_name}/src/{name}"));
-        }
-    }
-    files.sort();
-    Ok(files)
 }

@@ -56,6 +56,28 @@ fn block(text: &str) -> usize {
     text.len()
 }
 
+/// A line of a file, and whether the prover alone reads it.
+pub struct Line<'a> {
+    pub text: &'a str,
+    pub ghost: bool,
+}
+
+/// The lines of a file. A contract begins and ends with a line.
+pub fn lines(text: &str) -> Vec<Line<'_>> {
+    let ghosts = ghost_parts(text);
+    let mut lines = Vec::new();
+    let mut at = 0;
+    for line in text.split_inclusive('\n') {
+        let code = at + line.len() - line.trim_start_matches(' ').len();
+        at += line.len();
+        lines.push(Line {
+            text: line.trim_end_matches('\n'),
+            ghost: ghosts.iter().any(|part| part.contains(&code)),
+        });
+    }
+    lines
+}
+
 /// The file as Rust: without what the prover alone reads; structs and enums are values that are copied.
 pub fn rust(text: &str) -> String {
     let mut code = String::new();

@@ -1,0 +1,162 @@
+/* rainbow_computer.h: each function does what the call behind it does on the struct's own buffers, and the picture is
+ * always the one that a drawing afresh gives, although nothing here draws it after a change of columns. */
+#include "rainbow_computer.h"
+#include <stdio.h>
+#include <stdlib.h>
+
+enum { CALLS = 200000 };
+
+static rainbow_computer c, twin; /* the twin is changed by the calls of rainbow.h alone */
+static uint32_t seed = 1;
+
+static uint32_t below(uint32_t n)
+{
+    seed = seed * 1664525u + 1013904223u;
+    return (seed >> 8) % n;
+}
+
+static void expect(bool holds, const char *what)
+{
+    if (!holds) {
+        printf("rainbow_computer.h: %s\n", what);
+        exit(1);
+    }
+}
+
+static uint32_t marks_since(const uint8_t *before)
+{
+    uint32_t marks = 0;
+    for (unsigned row = 0; row < RAINBOW_ROWS; row++)
+        if (memcmp(before + row * RAINBOW_RECORD_BYTES, c.picture + row * RAINBOW_RECORD_BYTES, RAINBOW_RECORD_BYTES) != 0)
+            marks |= (uint32_t)1 << row;
+    return marks;
+}
+
+static void fill(void)
+{
+    for (size_t at = 0; at < sizeof c.shared; at++)
+        c.shared[at] = (uint8_t)below(256);
+    for (size_t at = 0; at < sizeof c.screen; at++) {
+        c.screen[at] = below(30) == 0 ? 0xFF : (uint8_t)(0x20 + below(95));
+        c.attribute[at] = c.glyphs[at] = (uint8_t)below(256);
+    }
+    for (size_t at = 0; at < sizeof c.nvm; at++)
+        c.nvm[at] = (uint8_t)below(256);
+}
+
+/* The same on the twin, each buffer lent by hand. */
+static void port(uint16_t number, uint8_t code)
+{
+    uint8_t before[RAINBOW_PICTURE_BYTES];
+    memcpy(before, c.picture, sizeof before);
+    rainbow_stored stored = rainbow_computer_write_port(&c, number, code);
+    rainbow_written written = rainbow_write_port(twin.machine, twin.shadow, sizeof twin.shadow, twin.nvm,
+                                                 sizeof twin.nvm, number, code);
+    twin.machine = written.machine;
+    rainbow_draw(twin.machine, twin.screen, sizeof twin.screen, twin.attribute, sizeof twin.attribute, twin.picture,
+                 sizeof twin.picture);
+    expect(stored.refusal == written.refusal, "the refusal of a port write");
+    expect(stored.marks == marks_since(before), "the marks of a port write");
+}
+
+static void store(uint32_t address, uint8_t byte)
+{
+    rainbow_stored stored = rainbow_computer_store(&c, address, byte);
+    rainbow_stored wanted = rainbow_store_with_picture(
+        twin.machine, twin.shared, sizeof twin.shared, twin.screen, sizeof twin.screen, twin.attribute,
+        sizeof twin.attribute, twin.picture, sizeof twin.picture, address, byte);
+    expect(stored.refusal == wanted.refusal && stored.marks == wanted.marks, "a store");
+}
+
+static void read_and_draw(void)
+{
+    uint32_t address = below(2) == 0 ? 0xEDFF0 + below(0x2020) : below(0x20000);
+    rainbow_byte_read read = rainbow_computer_read(&c, address);
+    rainbow_byte_read wanted = rainbow_read_8088(twin.shared, sizeof twin.shared, twin.screen, sizeof twin.screen,
+                                                 twin.attribute, sizeof twin.attribute, address);
+    expect(read.refusal == wanted.refusal && read.byte == wanted.byte, "a read");
+    uint16_t z80 = (uint16_t)below(0x1000);
+    expect(rainbow_computer_read_z80(&c, z80) == (z80 < 0x800 ? twin.private_memory[z80] : twin.shared[z80]),
+           "a read of the Z80");
+    size_t place = below(300), row = below(26), scan = below(12);
+    read = rainbow_computer_read_shadow(&c, place);
+    expect(read.refusal == (place > 255 ? 5 : 0) && read.byte == (place > 255 ? 0 : twin.shadow[place] % 16),
+           "a read of the shadow");
+    uint8_t refusal = rainbow_scan_line(twin.machine, twin.picture, sizeof twin.picture, twin.glyphs,
+                                        sizeof twin.glyphs, row, scan, twin.line, sizeof twin.line);
+    expect(rainbow_computer_scan_line(&c, row, scan) == refusal, "a scan line");
+}
+
+static void one_call(void)
+{
+    static const uint16_t ports[] = {0x04, 0x04, 0x0A, 0x0C, 0x10C, 0x05};
+    uint8_t byte = below(8) == 0 ? 0xFF : (uint8_t)below(256);
+    uint32_t number = below(300);
+    switch (below(8)) {
+    case 0: port(ports[below(6)], below(2) == 0 ? (uint8_t)(below(5) << 4) : byte); break;
+    case 1: read_and_draw(); break;
+    case 2:
+        rainbow_computer_store_z80(&c, (uint16_t)(0x700 + number), byte);
+        rainbow_store_z80(twin.private_memory, sizeof twin.private_memory, twin.shared, sizeof twin.shared,
+                          (uint16_t)(0x700 + number), byte);
+        break;
+    case 3:
+        expect(rainbow_computer_write_shadow(&c, number, byte) ==
+                   rainbow_write_shadow(twin.shadow, sizeof twin.shadow, number, byte), "a write of the shadow");
+        break;
+    case 4:
+        rainbow_computer_tick(&c);
+        twin.machine = rainbow_vertical_tick(twin.machine);
+        break;
+    default: store(0xEDFF0 + below(0x2020), byte);
+    }
+}
+
+/* Every byte of the two is the same, the picture's too, which the twin has drawn afresh or kept. */
+static void compare(void)
+{
+    expect(memcmp(&c, &twin, sizeof c) == 0, "the memories, the picture or the machine");
+    memcpy(twin.picture, c.picture, sizeof c.picture);
+    rainbow_computer_draw(&c);
+    expect(memcmp(&c, &twin, sizeof c) == 0, "the kept picture");
+}
+
+/* Rows as they are read off the screen. */
+static void rows(void)
+{
+    static rainbow_computer d;
+    char text[RAINBOW_TEXT_BYTES];
+    memset(d.screen, 'A', sizeof d.screen);
+    memcpy(d.screen, "HERD\001\xFF\x50\x01", 8);
+    d.attribute[6] = 6; /* the row pointed to is wide and scrolls */
+    rainbow_computer_power_up(&d);
+    rainbow_row row = rainbow_computer_row(&d, 0);
+    expect(row.refusal == 0 && row.start == 0 && row.kind == 3 && row.count == 5 && row.cells == 5, "row 0");
+    expect(rainbow_computer_text(&d, 0, text) == 5 && strcmp(text, "HERD.") == 0, "the text of row 0");
+    row = rainbow_computer_row(&d, 1);
+    expect(row.start == 0x150 && row.kind == 6 && row.count == RAINBOW_TORN && row.cells == 40, "row 1, torn");
+    row = rainbow_computer_row(&d, 2);
+    expect(row.count == RAINBOW_DARK && row.cells == 0 && row.kind == 3, "row 2, dark");
+    row = rainbow_computer_row(&d, 24);
+    expect(row.refusal == 5 && row.count == 0 && row.cells == 0, "row 24");
+    expect(rainbow_computer_text(&d, 24, text) == 0 && text[0] == 0, "the text of row 24");
+    expect(rainbow_computer_write_port(&d, 0x04, 0x10).marks == 2, "the marks of a change to 132 columns");
+    expect(rainbow_computer_row(&d, 1).cells == 66, "row 1 at 132 columns");
+    expect(rainbow_computer_glyph(&d, 3) == d.glyphs + 48, "a glyph's bytes");
+}
+
+int main(void)
+{
+    fill();
+    rainbow_computer_power_up(&c);
+    twin = c;
+    for (int calls = 0; calls < CALLS; calls++) {
+        one_call();
+        if (calls % 100 == 0)
+            compare();
+    }
+    rows();
+    for (int refusal = 0; refusal <= 7; refusal++)
+        printf("%d: %s\n", refusal, rainbow_refusal_text((uint8_t)refusal));
+    return 0;
+}

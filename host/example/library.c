@@ -1,0 +1,106 @@
+/* What the library of `make library` takes beside what the header asks of a caller: NULL with any length is refused by
+ * 1, and so is a length that no buffer can have; a bool of any byte but 0 is true. */
+#include "rainbow.h"
+#include <stdio.h>
+#include <string.h>
+
+static uint8_t shared[RAINBOW_SHARED_BYTES], screen[RAINBOW_SCREEN_BYTES], attribute[RAINBOW_ATTRIBUTE_BYTES];
+static uint8_t private_memory[RAINBOW_PRIVATE_BYTES], glyphs[RAINBOW_GLYPH_BYTES];
+static uint8_t nvm[RAINBOW_NVM_BYTES], shadow[RAINBOW_SHADOW_BYTES];
+static uint8_t picture[RAINBOW_PICTURE_BYTES], line[RAINBOW_LINE_BYTES];
+static int wrong = 0;
+
+static void expect(bool holds, const char *what)
+{
+    if (!holds) {
+        printf("%s is not as it should be\n", what);
+        wrong = 1;
+    }
+}
+
+/* A buffer of which one at a time is lent as something else. */
+typedef struct {
+    uint8_t *bytes;
+    size_t length;
+} buffer;
+
+enum { BUFFERS = 9 };
+static const buffer right[BUFFERS] = {
+    {shared, sizeof shared}, {private_memory, sizeof private_memory}, {screen, sizeof screen},
+    {attribute, sizeof attribute}, {glyphs, sizeof glyphs}, {nvm, sizeof nvm}, {shadow, sizeof shadow},
+    {picture, sizeof picture}, {line, sizeof line}};
+
+/* Whether a call with these buffers is refused by 1, if it is lent buffer `other`, and accepted if not. */
+static void call_all(const buffer *b, int other)
+{
+    rainbow_machine m = rainbow_power_up();
+    const buffer *s = b, *z = b + 1, *c = b + 2, *a = b + 3, *g = b + 4, *n = b + 5, *h = b + 6, *p = b + 7, *l = b + 8;
+    bool main_three = other == 0 || other == 2 || other == 3;
+    expect(rainbow_read_8088(s->bytes, s->length, c->bytes, c->length, a->bytes, a->length, 5).refusal == main_three,
+           "read_8088");
+    expect(rainbow_store_8088(s->bytes, s->length, c->bytes, c->length, a->bytes, a->length, 5, 1) == main_three,
+           "store_8088");
+    expect(rainbow_read_z80(z->bytes, z->length, s->bytes, s->length, 5).refusal == (other < 2), "read_z80");
+    expect(rainbow_store_z80(z->bytes, z->length, s->bytes, s->length, 5, 1) == (other < 2), "store_z80");
+    expect(rainbow_read_shadow(h->bytes, h->length, 5).refusal == (other == 6), "read_shadow");
+    expect(rainbow_write_shadow(h->bytes, h->length, 5, 1) == (other == 6), "write_shadow");
+    expect(rainbow_write_port(m, h->bytes, h->length, n->bytes, n->length, 0x0A, 0x40).refusal ==
+               (other == 5 || other == 6), "write_port");
+    expect(rainbow_draw(m, c->bytes, c->length, a->bytes, a->length, p->bytes, p->length).refusal ==
+               (other == 2 || other == 3 || other == 7), "draw");
+    expect(rainbow_store_with_picture(m, s->bytes, s->length, c->bytes, c->length, a->bytes, a->length, p->bytes,
+                                      p->length, 0xEE000, 1).refusal == (main_three || other == 7),
+           "store_with_picture");
+    expect(rainbow_glyph_part(g->bytes, g->length, 5).refusal == (other == 4), "glyph_part");
+    expect(rainbow_scan_line(m, p->bytes, p->length, g->bytes, g->length, 5, 5, l->bytes, l->length) ==
+               (other == 4 || other == 7 || other == 8), "scan_line");
+}
+
+static void lengths(void)
+{
+    for (int other = 0; other < BUFFERS; other++) {
+        const buffer others[] = {{NULL, right[other].length},      {NULL, SIZE_MAX},
+                                 {right[other].bytes, SIZE_MAX},   {right[other].bytes, SIZE_MAX / 2 + 1},
+                                 {right[other].bytes, SIZE_MAX / 2}};
+        for (size_t way = 0; way < sizeof others / sizeof others[0]; way++) {
+            buffer lent[BUFFERS];
+            memcpy(lent, right, sizeof lent);
+            lent[other] = others[way];
+            call_all(lent, other);
+        }
+    }
+}
+
+/* A machine with a field set to a byte, of which C makes no bool. */
+static rainbow_machine with(size_t field, uint8_t byte)
+{
+    rainbow_machine machine = rainbow_power_up();
+    memcpy((uint8_t *)&machine + field, &byte, 1);
+    return machine;
+}
+
+static void bools(void)
+{
+    for (int byte = 0; byte < 256; byte++) {
+        for (size_t field = 0; field < sizeof(rainbow_machine); field++) {
+            rainbow_machine after = rainbow_vertical_tick(with(field, (uint8_t)byte));
+            uint8_t bytes[sizeof after];
+            memcpy(bytes, &after, sizeof after);
+            bool number = field == 3 || field == 8; /* latch and held */
+            expect(field == 5 || bytes[field] == (number ? byte : byte != 0), "a field of the machine");
+            expect(bytes[5] == 1, "the vertical interrupt");
+        }
+        expect(rainbow_columns(with(0, (uint8_t)byte)) == (byte ? 132 : 80), "columns");
+        expect(rainbow_dots_of_line(with(0, (uint8_t)byte)) == (byte ? 1188 : 800), "dots_of_line");
+    }
+}
+
+int main(void)
+{
+    call_all(right, BUFFERS);
+    lengths();
+    bools();
+    if (wrong == 0)
+        puts("NULL and lengths that cannot be are refused by 1; every byte is a bool");
+    return wrong;
+}

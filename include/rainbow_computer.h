@@ -1,0 +1,195 @@
+/* A whole Rainbow in one struct: all memories, the picture and the machine, and the calls of rainbow.h on it.
+ *
+ * Nothing here is proved. Each function hands the struct's own buffers, with their lengths, to a proved call, so
+ * that no two can be swapped and none can have a wrong length. The picture is kept as long as memories and machine
+ * change by these functions alone: a write to a port that changes the column setting draws it afresh by itself.
+ * After a change of c.screen, c.attribute or c.machine by hand, call rainbow_computer_draw.
+ *
+ *     static rainbow_computer c;
+ *     rainbow_computer_power_up(&c);
+ *     rainbow_computer_write_port(&c, 0x0A, 0x02);
+ *     rainbow_computer_store(&c, 0xEE000, 'H');
+ */
+#ifndef RAINBOW_COMPUTER_H
+#define RAINBOW_COMPUTER_H
+
+#include "rainbow.h"
+
+#include <string.h>
+
+typedef struct rainbow_computer {
+    uint8_t shared[RAINBOW_SHARED_BYTES];
+    uint8_t private_memory[RAINBOW_PRIVATE_BYTES]; /* the Z80's own */
+    uint8_t screen[RAINBOW_SCREEN_BYTES];
+    uint8_t attribute[RAINBOW_ATTRIBUTE_BYTES];
+    uint8_t glyphs[RAINBOW_GLYPH_BYTES];
+    uint8_t nvm[RAINBOW_NVM_BYTES];
+    uint8_t shadow[RAINBOW_SHADOW_BYTES];
+    uint8_t picture[RAINBOW_PICTURE_BYTES];
+    uint8_t line[RAINBOW_LINE_BYTES]; /* the scan line drawn last */
+    rainbow_machine machine;
+} rainbow_computer;
+
+RAINBOW_SIZE(rainbow_computer, 88013);
+
+/* What a record of the picture says of its row. */
+typedef struct rainbow_row {
+    uint8_t refusal;
+    uint8_t kind;   /* 0 to 7 */
+    uint8_t count;  /* cells before FF, or RAINBOW_TORN, or RAINBOW_DARK */
+    uint8_t cells;  /* cells that the row has: its capacity if it is torn, none if it is dark */
+    uint16_t start; /* its place in screen memory */
+} rainbow_row;
+
+RAINBOW_SIZE(rainbow_row, 6);
+
+/* The bytes of a row's text with the 0 after it, at the most. */
+#define RAINBOW_TEXT_BYTES 133
+
+/* What a number of refusal says. */
+static inline const char *rainbow_refusal_text(uint8_t refusal)
+{
+    switch (refusal) {
+    case RAINBOW_ACCEPTED: return "accepted";
+    case RAINBOW_REFUSED_LENGTH: return "a lent buffer's length differs from the list";
+    case RAINBOW_REFUSED_ADDRESS: return "the 8088's address lies in none of its three ranges";
+    case RAINBOW_REFUSED_PORT: return "the port is none of 04, 0A, 0C, 10C";
+    case RAINBOW_REFUSED_CODE: return "the code is not in that port's list";
+    case RAINBOW_REFUSED_PLACE: return "a row over 23, a scan outside 1 to 10, a shadow place over 255";
+    case RAINBOW_REFUSED_EDGES: return "bits 6 and 7 of port 0A both rise in one write";
+    default: return "no number of refusal";
+    }
+}
+
+/* Draws the picture afresh. */
+static inline rainbow_drawn rainbow_computer_draw(rainbow_computer *c)
+{
+    return rainbow_draw(c->machine, c->screen, sizeof c->screen, c->attribute, sizeof c->attribute, c->picture,
+                        sizeof c->picture);
+}
+
+/* The machine as at power-up, and the picture of the memories as they are: no memory changes. */
+static inline rainbow_drawn rainbow_computer_power_up(rainbow_computer *c)
+{
+    c->machine = rainbow_power_up();
+    return rainbow_computer_draw(c);
+}
+
+/* The 8088 reads. Refused: 2. */
+static inline rainbow_byte_read rainbow_computer_read(const rainbow_computer *c, uint32_t address)
+{
+    return rainbow_read_8088(c->shared, sizeof c->shared, c->screen, sizeof c->screen, c->attribute,
+                             sizeof c->attribute, address);
+}
+
+/* The 8088 stores, and the picture is mended. Refused: 2. */
+static inline rainbow_stored rainbow_computer_store(rainbow_computer *c, uint32_t address, uint8_t byte)
+{
+    return rainbow_store_with_picture(c->machine, c->shared, sizeof c->shared, c->screen, sizeof c->screen,
+                                      c->attribute, sizeof c->attribute, c->picture, sizeof c->picture, address,
+                                      byte);
+}
+
+/* The Z80 reads; no address is refused. */
+static inline uint8_t rainbow_computer_read_z80(const rainbow_computer *c, uint16_t address)
+{
+    return rainbow_read_z80(c->private_memory, sizeof c->private_memory, c->shared, sizeof c->shared, address).byte;
+}
+
+/* The Z80 stores. The answer is the refusal. */
+static inline uint8_t rainbow_computer_store_z80(rainbow_computer *c, uint16_t address, uint8_t byte)
+{
+    return rainbow_store_z80(c->private_memory, sizeof c->private_memory, c->shared, sizeof c->shared, address, byte);
+}
+
+/* The shadow by place. Refused: 5. */
+static inline rainbow_byte_read rainbow_computer_read_shadow(const rainbow_computer *c, size_t place)
+{
+    return rainbow_read_shadow(c->shadow, sizeof c->shadow, place);
+}
+
+/* The answer is the refusal: 5. */
+static inline uint8_t rainbow_computer_write_shadow(rainbow_computer *c, size_t place, uint8_t value)
+{
+    return rainbow_write_shadow(c->shadow, sizeof c->shadow, place, value);
+}
+
+/* Writes a code to a port. If the column setting changes, the picture is drawn afresh; bit r of the marks is set
+ * exactly when record r changed. Refused: 3, 4, 6. */
+static inline rainbow_stored rainbow_computer_write_port(rainbow_computer *c, uint16_t port, uint8_t code)
+{
+    uint8_t before[RAINBOW_PICTURE_BYTES];
+    size_t columns = rainbow_columns(c->machine), row;
+    rainbow_written written =
+        rainbow_write_port(c->machine, c->shadow, sizeof c->shadow, c->nvm, sizeof c->nvm, port, code);
+    rainbow_stored stored = {written.refusal, 0};
+    c->machine = written.machine;
+    if (rainbow_columns(c->machine) == columns)
+        return stored;
+    memcpy(before, c->picture, sizeof before);
+    rainbow_computer_draw(c);
+    for (row = 0; row < RAINBOW_ROWS; row++) {
+        size_t at = row * RAINBOW_RECORD_BYTES;
+        if (memcmp(before + at, c->picture + at, RAINBOW_RECORD_BYTES) != 0)
+            stored.marks |= (uint32_t)1 << row;
+    }
+    return stored;
+}
+
+/* A vertical tick. */
+static inline void rainbow_computer_tick(rainbow_computer *c)
+{
+    c->machine = rainbow_vertical_tick(c->machine);
+}
+
+/* Draws a scan of a row into c->line, whose first rainbow_dots_of_line(c->machine) bytes are the dots. The answer is
+ * the refusal: 5. */
+static inline uint8_t rainbow_computer_scan_line(rainbow_computer *c, size_t row, size_t scan)
+{
+    return rainbow_scan_line(c->machine, c->picture, sizeof c->picture, c->glyphs, sizeof c->glyphs, row, scan, c->line,
+                             sizeof c->line);
+}
+
+/* The sixteen scan bytes of a code, in c->glyphs. */
+static inline uint8_t *rainbow_computer_glyph(rainbow_computer *c, uint8_t code)
+{
+    return c->glyphs + rainbow_glyph_part(c->glyphs, sizeof c->glyphs, code).at;
+}
+
+/* What the picture says of a row. Refused: 5, with all other numbers 0. */
+static inline rainbow_row rainbow_computer_row(const rainbow_computer *c, size_t row)
+{
+    rainbow_row said = {RAINBOW_REFUSED_PLACE, 0, 0, 0, 0};
+    const uint8_t *record;
+    size_t capacity = rainbow_columns(c->machine);
+    if (row >= RAINBOW_ROWS)
+        return said;
+    record = c->picture + row * RAINBOW_RECORD_BYTES;
+    said.refusal = RAINBOW_ACCEPTED;
+    said.start = (uint16_t)(record[0] << 8 | record[1]);
+    said.kind = record[RAINBOW_KIND_AT];
+    said.count = record[RAINBOW_COUNT_AT];
+    said.cells = said.count;
+    if (said.count == RAINBOW_TORN)
+        said.cells = (uint8_t)((said.kind & 3) == 3 ? capacity : capacity / 2);
+    if (said.count == RAINBOW_DARK)
+        said.cells = 0;
+    return said;
+}
+
+/* A row's cells as text, with a 0 after it: a point stands for what is no printable ASCII. The answer is how many
+ * cells there are, 0 for a row over 23. `text` has RAINBOW_TEXT_BYTES bytes. */
+static inline size_t rainbow_computer_text(const rainbow_computer *c, size_t row, char *text)
+{
+    size_t cells = rainbow_computer_row(c, row).cells, cell;
+    if (cells >= RAINBOW_TEXT_BYTES)
+        cells = RAINBOW_TEXT_BYTES - 1;
+    for (cell = 0; cell < cells; cell++) {
+        uint8_t character = c->picture[row * RAINBOW_RECORD_BYTES + RAINBOW_PAIRS_AT + 2 * cell];
+        text[cell] = character >= 0x20 && character < 0x7F ? (char)character : '.';
+    }
+    text[cells] = 0;
+    return cells;
+}
+
+#endif

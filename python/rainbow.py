@@ -1,0 +1,371 @@
+"""The DEC Rainbow 100's screen, memories and ports: librainbow from Python.
+
+    import rainbow
+    computer = rainbow.Computer()
+    computer.load(screen, attribute)
+    print(computer.text(0))
+
+A Computer holds all memories, the picture and the machine. Its methods are the functions of
+include/rainbow_computer.h; include/rainbow.h has the rule of each call. A call that is refused
+raises Refused and changes nothing. A number that the C type cannot hold raises ValueError.
+"""
+import ctypes
+import ctypes.util
+import operator
+import os
+from ctypes import c_bool, c_size_t, c_uint8, c_uint16, c_uint32
+from typing import NamedTuple
+
+# The numbers of include/rainbow.h, by the same names: first its version.
+VERSION = 2
+SHARED_BYTES, PRIVATE_BYTES = 65536, 2048
+SCREEN_BYTES, ATTRIBUTE_BYTES, GLYPH_BYTES = 4096, 4096, 4096
+NVM_BYTES, SHADOW_BYTES = 256, 256
+PICTURE_BYTES, LINE_BYTES = 6432, 1188
+ACCEPTED, REFUSED_LENGTH, REFUSED_ADDRESS, REFUSED_PORT = 0, 1, 2, 3
+REFUSED_CODE, REFUSED_PLACE, REFUSED_EDGES = 4, 5, 6
+ROWS, RECORD_BYTES, KIND_AT, COUNT_AT, PAIRS_AT = 24, 268, 2, 3, 4
+TORN, DARK = 255, 254
+FIRST_SCAN, LAST_SCAN = 1, 10
+
+# What each number of refusal says.
+REFUSAL_TEXTS = (
+    "accepted",
+    "a lent buffer's length differs from the list",
+    "the 8088's address lies in none of its three ranges",
+    "the port is none of 04, 0A, 0C, 10C",
+    "the code is not in that port's list",
+    "a row over 23, a scan outside 1 to 10, a shadow place over 255",
+    "bits 6 and 7 of port 0A both rise in one write",
+)
+
+
+class Refused(Exception):
+    """A call was refused: `number` says why, 1 to 6, and `text` says it in words."""
+
+    def __init__(self, number):
+        super().__init__(number)
+        self.number, self.text = number, REFUSAL_TEXTS[number]
+
+    def __str__(self):
+        return f"{self.number}, {self.text}"
+
+
+class Row(NamedTuple):
+    """What the picture says of a row."""
+
+    start: int  # its place in screen memory
+    kind: int  # 0 to 7
+    count: int  # cells before FF, or TORN, or DARK
+    cells: int  # cells that it has: its capacity if it is torn, none if it is dark
+
+    @property
+    def torn(self):
+        """Whether the row has no FF where one has to be."""
+        return self.count == TORN
+
+    @property
+    def dark(self):
+        """Whether a row before it is torn."""
+        return self.count == DARK
+
+
+class Machine(ctypes.Structure):
+    """The machine's own state."""
+
+    _fields_ = [("columns132", c_bool), ("hertz50", c_bool), ("interlace", c_bool),
+                ("latch", c_uint8), ("blink", c_bool), ("interrupt", c_bool), ("reverse", c_bool),
+                ("watchdog", c_bool), ("held", c_uint8)]
+
+    def __repr__(self):
+        fields = (f"{name}={getattr(self, name)}" for name, _ in self._fields_)
+        return f"Machine({', '.join(fields)})"
+
+
+class ByteRead(ctypes.Structure):
+    """The answer of a read."""
+    _fields_ = [("refusal", c_uint8), ("byte", c_uint8)]
+
+
+class Written(ctypes.Structure):
+    """The answer of a write to a port."""
+    _fields_ = [("refusal", c_uint8), ("machine", Machine)]
+
+
+class Drawn(ctypes.Structure):
+    """The answer of a drawing."""
+    _fields_ = [("refusal", c_uint8), ("reads", c_uint16)]
+
+
+class Stored(ctypes.Structure):
+    """The answer of a store with a picture lent."""
+    _fields_ = [("refusal", c_uint8), ("marks", c_uint32)]
+
+
+class PartPlace(ctypes.Structure):
+    """Where a code's part of a glyph table starts, and how long it is."""
+    _fields_ = [("refusal", c_uint8), ("at", c_size_t), ("length", c_size_t)]
+
+
+# What each function answers, and what it is given.
+_LENT = [ctypes.POINTER(c_uint8), c_size_t]
+FUNCTIONS = {
+    "rainbow_version": (c_uint32, []),
+    "rainbow_power_up": (Machine, []),
+    "rainbow_vertical_tick": (Machine, [Machine]),
+    "rainbow_columns": (c_size_t, [Machine]),
+    "rainbow_scroll_latch": (c_uint8, [Machine]),
+    "rainbow_blanked": (c_bool, [Machine]),
+    "rainbow_graphics": (c_bool, [Machine]),
+    "rainbow_write_port": (Written, [Machine] + _LENT * 2 + [c_uint16, c_uint8]),
+    "rainbow_read_8088": (ByteRead, _LENT * 3 + [c_uint32]),
+    "rainbow_store_8088": (c_uint8, _LENT * 3 + [c_uint32, c_uint8]),
+    "rainbow_read_z80": (ByteRead, _LENT * 2 + [c_uint16]),
+    "rainbow_store_z80": (c_uint8, _LENT * 2 + [c_uint16, c_uint8]),
+    "rainbow_read_shadow": (ByteRead, _LENT + [c_size_t]),
+    "rainbow_write_shadow": (c_uint8, _LENT + [c_size_t, c_uint8]),
+    "rainbow_draw": (Drawn, [Machine] + _LENT * 3),
+    "rainbow_store_with_picture": (Stored, [Machine] + _LENT * 4 + [c_uint32, c_uint8]),
+    "rainbow_is_marked": (c_bool, [c_uint32, c_size_t]),
+    "rainbow_glyph_part": (PartPlace, _LENT + [c_uint8]),
+    "rainbow_scan_line": (c_uint8, [Machine] + _LENT * 2 + [c_size_t] * 2 + _LENT),
+    "rainbow_dots_of_line": (c_size_t, [Machine]),
+}
+
+
+def _number(value, kind):
+    """The value, if the C type holds it: ctypes by itself cuts off what is too long."""
+    value, most = operator.index(value), 256 ** ctypes.sizeof(kind) - 1
+    if not 0 <= value <= most:
+        raise ValueError(f"{value:#x} is not in the range 0 to {most:#x}")
+    return value
+
+
+def _call(name, *given):
+    """The answer of a function that may refuse. A buffer is lent with its length after it."""
+    arguments = []
+    for part in given:
+        arguments += [part, len(part)] if isinstance(part, ctypes.Array) else [part]
+    for at, kind in enumerate(FUNCTIONS[name][1]):
+        if kind in (c_uint8, c_uint16, c_uint32, c_size_t):
+            arguments[at] = _number(arguments[at], kind)
+    answer = getattr(library, name)(*arguments)
+    refusal = answer if isinstance(answer, int) else answer.refusal
+    if refusal != ACCEPTED:
+        raise Refused(refusal)
+    return answer
+
+
+def _copy(given, length):
+    """The bytes of a bytes-like object, which must have this length."""
+    copy = bytes(memoryview(given))
+    if len(copy) != length:
+        raise Refused(REFUSED_LENGTH)
+    return copy
+
+
+def marked_rows(marks):
+    """The numbers of the rows that are marked."""
+    marks = _number(marks, c_uint32)
+    return [row for row in range(ROWS) if library.rainbow_is_marked(marks, row)]
+
+
+class Computer(ctypes.Structure):
+    """A whole Rainbow: at first all zeros, the machine at power-up, the picture drawn.
+
+    The picture is kept as long as memories and machine change by the methods alone. After a change
+    of screen, attribute or machine by hand, call draw().
+    """
+
+    _fields_ = [("shared", c_uint8 * SHARED_BYTES), ("private_memory", c_uint8 * PRIVATE_BYTES),
+                ("screen", c_uint8 * SCREEN_BYTES), ("attribute", c_uint8 * ATTRIBUTE_BYTES),
+                ("glyphs", c_uint8 * GLYPH_BYTES), ("nvm", c_uint8 * NVM_BYTES),
+                ("shadow", c_uint8 * SHADOW_BYTES), ("picture", c_uint8 * PICTURE_BYTES),
+                ("line", c_uint8 * LINE_BYTES), ("machine", Machine)]
+
+    marked_rows = staticmethod(marked_rows)
+
+    def __init__(self):
+        super().__init__()
+        self.power_up()
+
+    def power_up(self):
+        """Sets the machine as at power-up and draws; no memory changes. Answers as draw() does."""
+        self.machine = library.rainbow_power_up()
+        return self.draw()
+
+    def draw(self):
+        """Draws the picture afresh. The answer is how many bytes of screen memory were read."""
+        memories = self.screen, self.attribute, self.picture
+        return _call("rainbow_draw", self.machine, *memories).reads
+
+    def load(self, screen, attribute):
+        """Copies in two memories of 4,096 bytes each. Draws, and answers as draw() does.
+        Refused: 1."""
+        screen, attribute = _copy(screen, SCREEN_BYTES), _copy(attribute, ATTRIBUTE_BYTES)
+        self.screen[:], self.attribute[:] = screen, attribute
+        return self.draw()
+
+    def load_glyphs(self, table):
+        """Copies in a glyph table of 4,096 bytes. Refused: 1."""
+        self.glyphs[:] = _copy(table, GLYPH_BYTES)
+
+    def read(self, address):
+        """The byte that the 8088 reads. Refused: 2."""
+        memories = self.shared, self.screen, self.attribute
+        return _call("rainbow_read_8088", *memories, address).byte
+
+    def store(self, address, byte):
+        """The 8088 stores, and the picture is mended. The answer is the marks: bit r is set exactly
+        when record r changed. Refused: 2."""
+        memories = self.shared, self.screen, self.attribute, self.picture
+        return _call("rainbow_store_with_picture", self.machine, *memories, address, byte).marks
+
+    def read_z80(self, address):
+        """The byte that the Z80 reads. No address is refused."""
+        return _call("rainbow_read_z80", self.private_memory, self.shared, address).byte
+
+    def store_z80(self, address, byte):
+        """The Z80 stores. No address is refused."""
+        _call("rainbow_store_z80", self.private_memory, self.shared, address, byte)
+
+    def read_shadow(self, place):
+        """The byte at a place of the shadow, modulo 16. Refused: 5."""
+        return _call("rainbow_read_shadow", self.shadow, place).byte
+
+    def write_shadow(self, place, value):
+        """Writes the value, modulo 16, to a place of the shadow. Refused: 5."""
+        _call("rainbow_write_shadow", self.shadow, place, value)
+
+    def write_port(self, port, code):
+        """Writes a code to a port. If the column setting changes, the picture is drawn afresh, and
+        the answer is the marks of the records that changed, else 0. Refused: 3, 4, 6."""
+        columns = self.columns
+        written = _call("rainbow_write_port", self.machine, self.shadow, self.nvm, port, code)
+        self.machine = written.machine
+        if self.columns == columns:
+            return 0
+        before = [self._record(row) for row in range(ROWS)]
+        self.draw()
+        return sum(1 << row for row in range(ROWS) if self._record(row) != before[row])
+
+    def tick(self):
+        """A vertical tick: sets the vertical interrupt."""
+        self.machine = library.rainbow_vertical_tick(self.machine)
+
+    def scan_line(self, row, scan):
+        """Draws scan 1 to 10 of a row into `line`. The answer is its dots, 0 to 3 each.
+        Refused: 5."""
+        memories = self.picture, self.glyphs
+        _call("rainbow_scan_line", self.machine, *memories, row, scan, self.line)
+        return bytes(self.line)[:self.dots]
+
+    def glyph(self, code):
+        """The sixteen scan bytes of a code: a view of `glyphs`, which can be written to."""
+        part = _call("rainbow_glyph_part", self.glyphs, code)
+        return memoryview(self.glyphs).cast("B")[part.at:part.at + part.length]
+
+    def row(self, row):
+        """What the picture says of a row. Refused: 5."""
+        if _number(row, c_size_t) >= ROWS:
+            raise Refused(REFUSED_PLACE)
+        record = self._record(row)
+        kind, count = record[KIND_AT], record[COUNT_AT]
+        capacity = self.columns if kind & 3 == 3 else self.columns // 2
+        cells = {TORN: capacity, DARK: 0}.get(count, count)
+        return Row(int.from_bytes(record[:KIND_AT], "big"), kind, count, cells)
+
+    def text(self, row):
+        """A row's cells as text: a point stands for what is no printable ASCII. Refused: 5."""
+        cells = self.row(row).cells
+        characters = self._record(row)[PAIRS_AT::2][:cells]
+        return "".join(chr(code) if 0x20 <= code < 0x7F else "." for code in characters)
+
+    @property
+    def columns(self):
+        """The column setting: 80 or 132."""
+        return library.rainbow_columns(self.machine)
+
+    @property
+    def blanked(self):
+        """Whether the display is blanked."""
+        return library.rainbow_blanked(self.machine)
+
+    @property
+    def graphics(self):
+        """Whether the graphics board is selected."""
+        return library.rainbow_graphics(self.machine)
+
+    @property
+    def scroll_latch(self):
+        """The scroll latch, 0 to 15."""
+        return library.rainbow_scroll_latch(self.machine)
+
+    @property
+    def dots(self):
+        """How many dots a line has: 800 or 1,188."""
+        return library.rainbow_dots_of_line(self.machine)
+
+    def _record(self, row):
+        """The bytes of a row's record."""
+        return bytes(self.picture[row * RECORD_BYTES:(row + 1) * RECORD_BYTES])
+
+
+# The sizes in bytes that the library was made for.
+SIZES = {"size_t": (c_size_t, 8), "bool": (c_bool, 1), "rainbow_machine": (Machine, 9),
+         "rainbow_byte_read": (ByteRead, 2), "rainbow_written": (Written, 10),
+         "rainbow_drawn": (Drawn, 4), "rainbow_stored": (Stored, 8),
+         "rainbow_part_place": (PartPlace, 24), "rainbow_computer": (Computer, 88013)}
+
+
+def check_sizes(sizes):
+    """Raises ImportError if Python lays a struct out otherwise."""
+    for name, (kind, size) in sizes.items():
+        if ctypes.sizeof(kind) != size:
+            raise ImportError(f"{name} has {ctypes.sizeof(kind)} bytes in this Python, not {size}")
+
+
+def places():
+    """The files that may be the library, in the order in which they are tried."""
+    named = os.environ.get("RAINBOW_LIBRARY")
+    if named:
+        yield os.path.abspath(named)
+        return
+    root = os.path.dirname(os.path.dirname(os.path.realpath(__file__)))
+    yield os.path.join(root, "target", "library", "librainbow.so")
+    yield "librainbow.so.2"
+    yield "librainbow.so"
+    found = ctypes.util.find_library("rainbow")
+    if found:
+        yield found
+
+
+def load_library():
+    """The library, from the first place where it can be loaded."""
+    reasons = []
+    for place in places():
+        try:
+            return ctypes.CDLL(place)
+        except OSError as error:
+            reasons.append(error)
+    raise OSError(f"librainbow cannot be loaded ({reasons[0]}): run `make library`, or set "
+                  "RAINBOW_LIBRARY to the library's file")
+
+
+def set_up(loaded):
+    """Gives each function its types. Raises ImportError if the library has another version."""
+    try:
+        loaded.rainbow_version.restype, loaded.rainbow_version.argtypes = c_uint32, []
+        version = loaded.rainbow_version()
+        if version != VERSION:
+            raise ImportError(f"librainbow has version {version}, this module is for {VERSION}")
+        for name, (answer, given) in FUNCTIONS.items():
+            function = getattr(loaded, name)
+            function.restype, function.argtypes = answer, given
+    except AttributeError as error:
+        raise ImportError(f"a function of librainbow is missing ({error})") from None
+    return loaded
+
+
+check_sizes(SIZES)
+library = set_up(load_library())

@@ -1,0 +1,766 @@
+"""Tests of rainbow.py and rows.py: python3 -m unittest discover -s python
+
+The cases P1 to P13 are those of document 01.
+"""
+import copy
+import ctypes
+import os
+import pickle
+import random
+import re
+import shutil
+import subprocess
+import sys
+import tempfile
+import types
+import unittest
+from unittest import mock
+
+import rainbow
+from rainbow import Computer, Refused, Row
+
+HERE = os.path.dirname(os.path.abspath(__file__))
+ROOT = os.path.dirname(HERE)
+
+SCREEN, ATTRIBUTE = 0xEE000, 0xEF000
+DARK_ROW = Row(0, 3, rainbow.DARK, 0)
+PLAIN = 0x0E  # the attribute of a cell that is neither bold, blinking, underlined nor reverse
+
+
+def header(name):
+    """A header without its comments."""
+    with open(os.path.join(ROOT, "include", name), encoding="ascii") as file:
+        return re.sub(r"/\*.*?\*/", "", file.read(), flags=re.S)
+
+
+def defines(text):
+    """The numbers that a header defines, by name without the prefix."""
+    found = re.findall(r"^#define RAINBOW_(\w+) +(\d+) *$", text, flags=re.M)
+    return {name: int(number) for name, number in found}
+
+
+def sizes(text):
+    """The sizes that a header states."""
+    found = re.findall(r"^RAINBOW_SIZE\((\w+), (\d+)\);", text, flags=re.M)
+    return {name: int(number) for name, number in found}
+
+
+def structs(text):
+    """The structs of a header: for each the type, name and array length of every field."""
+    found = re.findall(r"typedef struct (\w+) \{(.*?)\} (\w+);", text, flags=re.S)
+    fields = r"(\w+) (\w+)(?:\[RAINBOW_(\w+)\])?;"
+    return {name: re.findall(fields, body) for name, body, _ in found}
+
+
+def declarations(text):
+    """The functions that a header declares: for each its answer, and type and name of its parts."""
+    found = re.findall(r"^(\w+) (rainbow_\w+)\(([^()]*)\);", text, flags=re.M)
+    return {name: (answer, parts(given)) for answer, name, given in found}
+
+
+def parts(given):
+    """Type and name of each part of a declaration's list; a pointer's type ends with a star."""
+    if given == "void":
+        return []
+    given = [" ".join(part.replace("const ", "").split()) for part in given.split(",")]
+    found = [re.fullmatch(r"(\w+(?: \*)?) ?(\w+)", part) for part in given]
+    return [part.groups() for part in found]
+
+
+C_TYPES = {
+    "bool": ctypes.c_bool, "uint8_t": ctypes.c_uint8, "uint16_t": ctypes.c_uint16,
+    "uint32_t": ctypes.c_uint32, "size_t": ctypes.c_size_t,
+    "uint8_t *": ctypes.POINTER(ctypes.c_uint8), "rainbow_machine": rainbow.Machine,
+    "rainbow_byte_read": rainbow.ByteRead, "rainbow_written": rainbow.Written,
+    "rainbow_drawn": rainbow.Drawn, "rainbow_stored": rainbow.Stored,
+    "rainbow_part_place": rainbow.PartPlace, "rainbow_computer": Computer,
+}
+
+
+class Case(unittest.TestCase):
+    """What the tests share."""
+
+    def setUp(self):
+        self.computer = Computer()
+
+    def refused(self, number, call, *given):
+        """The call is refused by this number and changes no byte."""
+        before = bytes(self.computer)
+        with self.assertRaises(Refused) as caught:
+            call(*given)
+        self.assertEqual(caught.exception.number, number)
+        self.assertEqual(bytes(self.computer), before)
+
+    def changes(self, before):
+        """The places of the computer that changed, with what they hold now."""
+        after = bytes(self.computer)
+        return {at: after[at] for at in range(len(after)) if after[at] != before[at]}
+
+    def chain(self, kind, end):
+        """Row 1 starts at 100 hex, is of this kind and has its FF so many bytes further on."""
+        screen, attribute = bytearray(4096), bytearray(4096)
+        screen[0:3] = 0xFF, 0x00, 0x01
+        attribute[1] = kind
+        screen[0x100 + end] = 0xFF
+        self.computer.load(screen, attribute)
+        return self.computer.row(1)
+
+
+class Worked(Case):
+    """The worked cases of document 01."""
+
+    def test_p1_all_ff(self):
+        self.assertEqual(self.computer.load(b"\xff" * 4096, bytes(4096)), 72)
+        self.assertEqual(self.computer.row(0), Row(0, 3, 0, 0))
+        for row in range(1, 24):
+            self.assertEqual(self.computer.row(row), Row(4095, 0, 0, 0))
+
+    def test_p2_all_zero(self):
+        self.assertEqual(self.computer.draw(), 81)
+        self.assertEqual(self.computer.row(0), Row(0, 3, 255, 80))
+        self.assertTrue(self.computer.row(0).torn)
+        self.assertFalse(self.computer.row(0).dark)
+        for row in range(1, 24):
+            self.assertEqual(self.computer.row(row), DARK_ROW)
+            self.assertTrue(self.computer.row(row).dark)
+            self.assertFalse(self.computer.row(row).torn)
+
+    def test_p3_p4_link(self):
+        for high in (0x01, 0xF1):
+            self.computer.load(bytes([0xFF, 0x50, high]) + bytes(4093), bytes(4096))
+            self.assertEqual(self.computer.row(1).start, 336)
+
+    def test_p5_normal(self):
+        self.assertEqual(self.chain(3, 80), Row(256, 3, 80, 80))
+        self.assertEqual(self.chain(3, 81), Row(256, 3, rainbow.TORN, 80))
+        self.assertEqual(self.chain(7, 81), Row(256, 7, rainbow.TORN, 80))
+
+    def test_p5_at_132_columns(self):
+        self.computer.write_port(0x04, 0x10)
+        self.assertEqual(self.chain(3, 132), Row(256, 3, 132, 132))
+        self.assertEqual(self.chain(3, 133), Row(256, 3, rainbow.TORN, 132))
+
+    def test_p6_double_width(self):
+        self.assertEqual(self.chain(2, 40), Row(256, 2, 40, 40))
+        self.assertEqual(self.chain(2, 41), Row(256, 2, rainbow.TORN, 40))
+
+    def test_p7_z80(self):
+        for address, memory, place in ((0x07FF, "private_memory", 2047), (0x0800, "shared", 2048)):
+            before = bytes(self.computer)
+            self.computer.store_z80(address, 0x5A)
+            at = getattr(Computer, memory).offset + place
+            self.assertEqual(self.changes(before), {at: 0x5A})
+            self.assertEqual(self.computer.read_z80(address), 0x5A)
+
+    def test_p8_8088(self):
+        self.computer.store(0xEE000, 0x12)
+        self.computer.store(0xEFFFF, 0x34)
+        self.computer.store(0x0FFFF, 0x56)
+        self.assertEqual(self.computer.screen[0], 0x12)
+        self.assertEqual(self.computer.attribute[4095], 0x34)
+        self.assertEqual(self.computer.shared[65535], 0x56)
+        reads = [self.computer.read(address) for address in (0xEE000, 0xEFFFF, 0x0FFFF)]
+        self.assertEqual(reads, [0x12, 0x34, 0x56])
+        for address in (0xEDFFF, 0xF0000, 0x10000, 0xFFFFFFFF):
+            self.refused(2, self.computer.read, address)
+            self.refused(2, self.computer.store, address, 1)
+
+    def test_p9_interlace(self):
+        for codes, interlaced in (((0x00, 0x20), False), ((0x20, 0x00), True)):
+            for code in codes:
+                self.computer.write_port(0x04, code)
+            self.assertIs(self.computer.machine.interlace, interlaced)
+
+    def dots(self, row, scan, count):
+        """The first dots of a line, 1 for a lit one."""
+        line = self.computer.scan_line(row, scan)
+        self.assertEqual(len(line), self.computer.dots)
+        self.assertLessEqual(set(line), {0, 2})
+        return "".join("1" if dot else "0" for dot in line[:count])
+
+    def test_p10_glyph_byte(self):
+        self.computer.glyph(0x41)[0] = 0xA5  # scan 2
+        self.computer.load(b"A" + bytes(4095), bytes([PLAIN]) * 4096)
+        self.computer.write_port(0x0A, 0x02)
+        self.assertEqual(self.dots(0, 2, 10), "1010010111")
+        self.computer.write_port(0x04, 0x10)
+        self.assertEqual(self.dots(0, 2, 9), "101001011")
+        self.assertEqual(self.dots(0, 3, 9), "000000000")
+
+    def test_p11_halves(self):
+        for scan in range(1, 11):
+            self.computer.glyph(0x41)[(scan - 2) % 16] = scan
+        self.computer.write_port(0x0A, 0x02)
+        for kind, scan, glyph_scan in ((1, 10, 5), (0, 1, 6), (0, 7, 9)):
+            self.chain(kind, 1)
+            self.computer.store(SCREEN + 0x100, 0x41)
+            self.computer.store(ATTRIBUTE + 0x100, PLAIN)
+            wide = self.dots(1, scan, 16)
+            self.assertEqual(wide[0::2], wide[1::2])
+            self.assertEqual(int(wide[0::2], 2), glyph_scan)
+
+    def test_p12_one_recall(self):
+        self.computer.nvm[:] = range(256)
+        self.computer.write_port(0x0A, 0x83)
+        self.assertEqual(bytes(self.computer.shadow), bytes(range(256)))
+        self.computer.write_shadow(7, 0xF9)
+        self.computer.write_port(0x0A, 0x83)
+        self.assertEqual(self.computer.shadow[7], 9)
+        self.assertEqual(self.computer.machine.held, 0x83)
+
+    def test_p13_marks(self):
+        self.computer.load(b"\xff" + bytes(4095), b"\x03" * 4096)
+        marks = self.computer.store(SCREEN + 2, 1)
+        self.assertEqual(marks, 0xFFFFFE)
+        self.assertEqual(rainbow.marked_rows(marks), list(range(1, 24)))
+        self.assertEqual(self.computer.row(0), Row(0, 3, 0, 0))
+        self.assertEqual(self.computer.row(1), Row(256, 3, rainbow.TORN, 80))
+        self.assertEqual(self.computer.row(2), DARK_ROW)
+
+
+class Calls(Case):
+    """Each method beside the rule of its call."""
+
+    def test_new(self):
+        machine_at = Computer.machine.offset
+        picture_at = Computer.picture.offset
+        self.assertEqual(bytes(self.computer)[machine_at:], bytes(9))
+        self.assertEqual(bytes(self.computer)[:picture_at], bytes(picture_at))
+        kept = bytes(self.computer.picture)
+        self.assertNotEqual(kept, bytes(6432))
+        self.computer.draw()
+        self.assertEqual(bytes(self.computer.picture), kept)
+
+    def test_power_up_keeps_memories(self):
+        self.computer.load(b"\xff" * 4096, bytes(4096))
+        drawn = bytes(self.computer)
+        self.computer.write_port(0x04, 0x10)
+        self.computer.picture[0] = 9
+        self.assertEqual(self.computer.power_up(), 72)
+        self.assertEqual(bytes(self.computer), drawn)
+
+    def test_settings(self):
+        seen = lambda: (self.computer.columns, self.computer.dots, self.computer.blanked,
+                        self.computer.graphics, self.computer.scroll_latch)
+        self.assertEqual(seen(), (80, 800, True, False, 0))
+        for port, code in ((0x04, 0x10), (0x0A, 0x06), (0x0C, 0x02), (0x10C, 0x05)):
+            self.computer.write_port(port, code)
+        self.assertEqual(seen(), (132, 1188, False, True, 6))
+
+    def test_machine(self):
+        machine = lambda: self.computer.machine
+        self.computer.tick()
+        self.assertTrue(machine().interrupt)
+        for port, code, field, value in (
+                (0x0C, 0x09, "interrupt", False), (0x0C, 0x08, "blink", True),
+                (0x10C, 0x0A, "reverse", True), (0x10C, 0x0B, "reverse", False),
+                (0x0C, 0x00, "watchdog", True), (0x10C, 0x00, "watchdog", False),
+                (0x04, 0x30, "hertz50", True), (0x04, 0x20, "hertz50", False)):
+            self.computer.write_port(port, code)
+            self.assertIs(getattr(machine(), field), value, (port, code))
+        self.assertIn("blink=True", repr(machine()))
+
+    def test_ports_refused(self):
+        self.refused(3, self.computer.write_port, 5, 0)
+        self.refused(3, self.computer.write_port, 0xFFFF, 0xFF)
+        self.refused(4, self.computer.write_port, 0x04, 0x01)
+        self.refused(4, self.computer.write_port, 0x0C, 0x0C)
+        self.refused(6, self.computer.write_port, 0x0A, 0xC0)
+
+    def test_save(self):
+        self.computer.shadow[:] = range(256)
+        self.assertEqual(self.computer.write_port(0x0A, 0x40), 0)
+        self.assertEqual(bytes(self.computer.nvm), bytes(range(256)))
+
+    def test_shadow(self):
+        self.computer.write_shadow(255, 0x5A)
+        self.assertEqual(self.computer.shadow[255], 0x0A)
+        self.computer.shadow[255] = 0x7C
+        self.assertEqual(self.computer.read_shadow(255), 0x0C)
+        self.refused(5, self.computer.read_shadow, 256)
+        self.refused(5, self.computer.write_shadow, 2 ** 64 - 1, 0)
+
+    def test_scan_line(self):
+        for row, scan in ((24, 1), (0, 0), (0, 11), (2 ** 64 - 1, 2 ** 64 - 1)):
+            self.refused(5, self.computer.scan_line, row, scan)
+        self.computer.line[799], self.computer.line[1187] = 3, 3
+        self.assertEqual(self.computer.scan_line(23, 10), bytes(800))
+        self.assertEqual(bytes(self.computer.line), bytes(1188))
+
+    def test_glyph(self):
+        view = self.computer.glyph(3)
+        view[:] = bytes(range(16))
+        self.assertEqual(self.computer.glyphs[48:64], list(range(16)))
+        self.assertEqual(sum(self.computer.glyphs), sum(range(16)))
+        del self.computer
+        self.assertEqual(view.tolist(), list(range(16)))
+
+    def test_rows_and_text(self):
+        screen, attribute = bytearray(b"A" * 4096), bytearray(4096)
+        screen[0:8] = b"HERD\x01\xff\x50\x01"
+        attribute[6] = 6  # the row pointed to is wide and scrolls
+        self.computer.load(screen, attribute)
+        self.assertEqual(self.computer.row(0), Row(0, 3, 5, 5))
+        self.assertEqual(self.computer.text(0), "HERD.")
+        self.assertEqual(self.computer.row(1), Row(0x150, 6, rainbow.TORN, 40))
+        self.assertEqual(self.computer.text(1), "A" * 40)
+        self.assertEqual((self.computer.row(2), self.computer.text(2)), (DARK_ROW, ""))
+        self.assertEqual(self.computer.write_port(0x04, 0x10), 2)
+        self.assertEqual(self.computer.text(1), "A" * 66)
+        self.assertEqual(self.computer.write_port(0x04, 0x10), 0)
+        for row in (24, 2 ** 64 - 1):
+            self.refused(5, self.computer.row, row)
+            self.refused(5, self.computer.text, row)
+
+    def test_text_is_printable(self):
+        for first in range(0, 255, 51):
+            codes = bytes(range(first, first + 51))
+            self.computer.load(codes + b"\xff" + bytes(4044), bytes(4096))
+            wanted = "".join(chr(code) if 32 <= code <= 126 else "." for code in codes)
+            self.assertEqual(self.computer.text(0), wanted)
+
+    def test_text_of_a_count_too_great(self):
+        self.computer.picture[rainbow.COUNT_AT] = 200
+        self.assertEqual(self.computer.row(0).cells, 200)
+        self.assertEqual(self.computer.text(0), "." * 80 + " " * 52)
+
+    def test_marked_rows(self):
+        self.assertEqual(self.computer.marked_rows(0x800005), [0, 2, 23])
+        self.assertEqual(rainbow.marked_rows(0), [])
+
+    def test_load(self):
+        screen, attribute = bytes([1, 0xFF] * 2048), bytearray([3, 5] * 2048)
+        ctypes_array = (ctypes.c_uint8 * 4096).from_buffer_copy(screen)
+        self.assertEqual(self.computer.load(ctypes_array, memoryview(attribute)), 1 + 3 * 24)
+        self.assertEqual(bytes(self.computer.screen), screen)
+        self.assertEqual(bytes(self.computer.attribute), attribute)
+        self.computer.load(self.computer.attribute, self.computer.screen)
+        self.assertEqual(bytes(self.computer.screen), attribute)
+        self.assertEqual(bytes(self.computer.attribute), screen)
+        self.computer.load_glyphs(screen)
+        self.assertEqual(bytes(self.computer.glyphs), screen)
+
+    def test_load_refused(self):
+        good = b"\xff" * 4096
+        for wrong in (b"", good[1:], good + good[:1]):
+            self.refused(1, self.computer.load, good, wrong)
+            self.refused(1, self.computer.load, wrong, good)
+            self.refused(1, self.computer.load_glyphs, wrong)
+        for wrong in (4096, "\0" * 4096, None):
+            self.assertRaises(TypeError, self.computer.load, good, wrong)
+            self.assertRaises(TypeError, self.computer.load_glyphs, wrong)
+        self.assertEqual(bytes(self.computer), bytes(Computer()))
+
+    def test_refused_says_why(self):
+        with self.assertRaises(Refused) as caught:
+            self.computer.read(0x10000)
+        why = "the 8088's address lies in none of its three ranges"
+        self.assertEqual(caught.exception.text, why)
+        self.assertEqual(str(caught.exception), "2, " + why)
+        again = pickle.loads(pickle.dumps(caught.exception))
+        self.assertEqual((again.number, again.text), (2, why))
+
+    def test_copy(self):
+        self.computer.store(SCREEN, 0x41)
+        other = copy.copy(self.computer)
+        self.assertEqual(bytes(other), bytes(self.computer))
+        other.store(SCREEN, 0x42)
+        self.assertEqual((self.computer.read(SCREEN), other.read(SCREEN)), (0x41, 0x42))
+
+
+class Numbers(Case):
+    """Numbers that the C type does not hold."""
+
+    def test_do_not_fit(self):
+        computer = self.computer
+        for call, given, most in (
+                (computer.read, [0], [0xFFFFFFFF]),
+                (computer.store, [0, 0], [0xFFFFFFFF, 0xFF]),
+                (computer.read_z80, [0], [0xFFFF]),
+                (computer.store_z80, [0, 0], [0xFFFF, 0xFF]),
+                (computer.read_shadow, [0], [2 ** 64 - 1]),
+                (computer.write_shadow, [0, 0], [2 ** 64 - 1, 0xFF]),
+                (computer.write_port, [0x0C, 8], [0xFFFF, 0xFF]),
+                (computer.scan_line, [0, 1], [2 ** 64 - 1, 2 ** 64 - 1]),
+                (computer.glyph, [0], [0xFF]),
+                (computer.row, [0], [2 ** 64 - 1]),
+                (computer.text, [0], [2 ** 64 - 1]),
+                (computer.marked_rows, [0], [0xFFFFFFFF])):
+            for at, top in enumerate(most):
+                with self.subTest(call=call.__name__, at=at):
+                    self.do_not_fit(call, given, at, top)
+
+    def do_not_fit(self, call, given, at, top):
+        """One number of a call is wrong. What would be left of most of them is accepted."""
+        before = bytes(self.computer)
+        for number in (-1, top + 1, -top, 2 * (top + 1), 2 ** 70, 10 ** 5000):
+            with self.assertRaisesRegex(ValueError, f"range 0 to {top:#x}$"):
+                call(*given[:at], number, *given[at + 1:])
+        for number in (1.0, "1", b"A", None):
+            self.assertRaises(TypeError, call, *given[:at], number, *given[at + 1:])
+        self.assertEqual(bytes(self.computer), before)
+
+    def test_the_greatest_fits(self):
+        self.computer.store_z80(0xFFFF, 0xFF)
+        self.assertEqual(self.computer.read_z80(0xFFFF), 0xFF)
+        self.assertEqual(self.computer.read(0xFFFF), 0xFF)
+        self.assertEqual(len(self.computer.glyph(0xFF)), 16)
+        self.assertEqual(rainbow.marked_rows(0xFFFFFFFF), list(range(24)))
+
+
+class Headers(unittest.TestCase):
+    """The module beside include/rainbow.h and include/rainbow_computer.h."""
+
+    calls, whole = header("rainbow.h"), header("rainbow_computer.h")
+
+    def test_numbers(self):
+        wanted = defines(self.calls)
+        self.assertEqual(len(wanted), 26)
+        self.assertEqual({name: getattr(rainbow, name, None) for name in wanted}, wanted)
+        pairs = (rainbow.RECORD_BYTES - rainbow.PAIRS_AT) // 2
+        self.assertEqual(defines(self.whole), {"TEXT_BYTES": pairs + 1})
+
+    def test_sizes(self):
+        wanted = {**sizes(self.calls), **sizes(self.whole)}
+        self.assertEqual(wanted.pop("rainbow_row"), 6)  # a tuple here
+        self.assertEqual({name: size for name, (_, size) in rainbow.SIZES.items()}, wanted)
+        for name, size in wanted.items():
+            self.assertEqual(ctypes.sizeof(C_TYPES[name]), size, name)
+            self.assertIs(rainbow.SIZES[name][0], C_TYPES[name])
+
+    def test_other_size(self):
+        with self.assertRaisesRegex(ImportError, "^rainbow_drawn has 4 bytes .*, not 3$"):
+            rainbow.check_sizes({"rainbow_drawn": (rainbow.Drawn, 3)})
+
+    def test_fields(self):
+        wanted = {**structs(self.calls), **structs(self.whole)}
+        self.assertEqual({name for _, name, _ in wanted.pop("rainbow_row")} - {"refusal"},
+                         set(Row._fields))
+        self.assertEqual(len(wanted), 7)
+        for name, fields in wanted.items():
+            fields = [(field, C_TYPES[kind] * getattr(rainbow, length) if length else C_TYPES[kind])
+                      for kind, field, length in fields]
+            self.assertEqual(C_TYPES[name]._fields_, fields, name)
+
+    def test_functions(self):
+        wanted = declarations(self.calls)
+        self.assertEqual(len(wanted), 20)
+        self.assertEqual(list(rainbow.FUNCTIONS), list(wanted))
+        for name, (answer, given) in wanted.items():
+            function = getattr(rainbow.library, name)
+            self.assertIs(function.restype, C_TYPES[answer], name)
+            self.assertEqual(function.argtypes, [C_TYPES[kind] for kind, _ in given], name)
+
+    def test_methods(self):
+        """Each function of rainbow_computer.h is a method."""
+        names = re.findall(r"^static inline .*\brainbow_computer_(\w+)\(", self.whole, flags=re.M)
+        self.assertEqual(len(names), 14)
+        for name in names:
+            self.assertTrue(callable(getattr(Computer, name)), name)
+
+    def test_refusal_texts(self):
+        numbers = defines(self.calls)
+        found = re.findall(r'case RAINBOW_(\w+): return "(.*)";', self.whole)
+        wanted = {numbers[name]: text for name, text in found}
+        self.assertEqual(dict(enumerate(rainbow.REFUSAL_TEXTS)), wanted)
+        self.assertEqual(list(wanted), list(range(7)))
+
+
+class Lent(Case):
+    """The functions of the library with buffers that they have to refuse."""
+
+    numbers = {"address": SCREEN, "byte": 1, "value": 1, "place": 0, "port": 0x0C, "code": 8,
+               "row": 0, "scan": 1}
+
+    def arguments(self, given):
+        """Arguments that are accepted, a buffer of the computer for each pointer."""
+        arguments = []
+        for kind, name in given:
+            if kind == "uint8_t *":
+                buffer = getattr(self.computer, "glyphs" if name == "table" else name)
+                arguments += [buffer, len(buffer)]
+            elif name == "machine":
+                arguments.append(self.computer.machine)
+            elif not name.endswith("_length"):
+                arguments.append(self.numbers[name])
+        return arguments
+
+    def refusal(self, answer):
+        """The refusal of an answer. If it is one, all its other numbers are 0."""
+        if isinstance(answer, int):
+            return answer
+        if answer.refusal != 0:
+            for name, kind in answer._fields_[1:]:
+                value = getattr(answer, name)
+                if kind is rainbow.Machine:
+                    self.assertEqual(bytes(value), bytes(self.computer.machine))
+                else:
+                    self.assertEqual(value, 0, name)
+        return answer.refusal
+
+    def test_refused(self):
+        self.computer.tick()
+        functions = 0
+        for name, (_, given) in declarations(header("rainbow.h")).items():
+            lengths = [at for at, (_, part) in enumerate(given) if part.endswith("_length")]
+            if not lengths:
+                continue
+            functions += 1
+            call, arguments = getattr(rainbow.library, name), self.arguments(given)
+            self.assertEqual(len(arguments), len(given), name)
+            before = bytes(self.computer)
+            for at in lengths:
+                self.one_refused(name, call, arguments, at)
+            self.assertEqual(bytes(self.computer), before, name)
+            self.assertEqual(self.refusal(call(*arguments)), 0, name)
+        self.assertEqual(functions, 11)
+
+    def one_refused(self, name, call, arguments, at):
+        """One buffer is NULL, or has another length."""
+        right = arguments[at]
+        wrong = [0, 1, right - 1, right + 1, 2 * right, 2 ** 32 + right, 2 ** 64 - 1]
+        for pointer, lengths in ((None, wrong + [right]), (arguments[at - 1], wrong)):
+            for length in lengths:
+                changed = list(arguments)
+                changed[at - 1:at + 1] = pointer, length
+                with self.subTest(name, null=pointer is None, length=length):
+                    self.assertEqual(self.refusal(call(*changed)), 1)
+
+
+class Runs(Case):
+    """A long run of calls."""
+
+    calls = 20000
+
+    def setUp(self):
+        super().setUp()
+        self.random = random.Random(1)
+        fill = self.random.choices(range(256), k=65536)
+        self.computer.shared[:] = fill
+        self.computer.nvm[:] = fill[:256]
+        self.computer.load_glyphs(bytes(fill[:4096]))
+        screen = [0xFF if self.random.random() < 0.05 else code for code in fill[:4096]]
+        self.computer.load(bytes(screen), bytes(fill[4096:8192]))
+
+    def byte(self):
+        """Any byte, but FF often."""
+        return 0xFF if self.random.random() < 0.2 else self.random.randrange(256)
+
+    def in_a_row(self):
+        """An address of screen or attribute memory that a row is likely to read."""
+        row = self.computer.row(self.random.randrange(24))
+        place = row.start + self.random.randrange(row.cells + 3)
+        return self.random.choice((SCREEN, ATTRIBUTE)) + place % 4096
+
+    def one_call(self):
+        """Makes one call. The answer is its name, its marks if it has any, and a read that must
+        give the byte stored, if one was."""
+        computer, below, byte = self.computer, self.random.randrange, self.byte()
+        kind = below(10)
+        if kind < 6:
+            address = (below(0x10000) if kind == 0 else SCREEN - 8 + below(0x2010) if kind == 1
+                       else self.in_a_row())
+            return "store", computer.store(address, byte), (computer.read, address, byte)
+        if kind == 6:
+            address = below(0x1000)
+            computer.store_z80(address, byte)
+            return "store_z80", 0, (computer.read_z80, address, byte)
+        if kind == 7:
+            port = self.random.choice((0x04, 0x04, 0x04, 0x0A, 0x0C, 0x10C, 0x05))
+            code = self.random.choice((0x00, 0x10, 0x20, 0x30, below(16), byte))
+            return "write_port", computer.write_port(port, code), None
+        if kind == 8:
+            place = below(300)
+            computer.write_shadow(place, byte)
+            return "write_shadow", 0, (computer.read_shadow, place, byte % 16)
+        computer.scan_line(below(26), below(12))
+        return "scan_line", 0, None
+
+    def drawn_afresh(self):
+        """The picture as it is drawn into another buffer."""
+        computer, picture = self.computer, (ctypes.c_uint8 * rainbow.PICTURE_BYTES)()
+        drawn = rainbow.library.rainbow_draw(computer.machine, computer.screen, 4096,
+                                             computer.attribute, 4096, picture, len(picture))
+        self.assertEqual(drawn.refusal, 0)
+        return bytes(picture)
+
+    def changed_rows(self, before):
+        """The rows whose records differ from those of an earlier picture."""
+        after = bytes(self.computer.picture)
+        record = lambda picture, row: picture[row * 268:(row + 1) * 268]
+        return [row for row in range(24) if record(before, row) != record(after, row)]
+
+    def test_kept_picture(self):
+        seen = {}
+        for number in range(self.calls):
+            before, columns = bytes(self.computer), self.computer.columns
+            picture = bytes(self.computer.picture)
+            try:
+                name, marks, stored = self.one_call()
+            except Refused as refused:
+                self.assertEqual(bytes(self.computer), before)
+                self.count(seen, refused.number)
+                continue
+            self.count(seen, name)
+            self.count(seen, "marks", marks != 0)
+            self.count(seen, "columns", self.computer.columns != columns)
+            self.assertEqual(rainbow.marked_rows(marks), self.changed_rows(picture))
+            if stored is not None:
+                read, place, byte = stored
+                self.assertEqual(read(place), byte)
+            if number % 50 == 0:
+                self.assertEqual(bytes(self.computer.picture), self.drawn_afresh())
+        self.assertEqual(bytes(self.computer.picture), self.drawn_afresh())
+        # The run went everywhere that it should.
+        for name, least in (("store", 8000), ("store_z80", 1000), ("write_port", 500),
+                            ("write_shadow", 500), ("scan_line", 500), ("marks", 500),
+                            ("columns", 100), (2, 5), (3, 100), (4, 100), (5, 100), (6, 1)):
+            self.assertGreaterEqual(seen.get(name, 0), least, name)
+
+    @staticmethod
+    def count(seen, name, holds=True):
+        """Counts what was seen."""
+        seen[name] = seen.get(name, 0) + holds
+
+
+class Lister(unittest.TestCase):
+    """The example, run as a user runs it."""
+
+    def run_rows(self, *arguments, given=b"", folder=None):
+        """What rows.py does: exit status, standard output, standard error."""
+        command = [sys.executable, os.path.join(HERE, "rows.py"), *arguments]
+        done = subprocess.run(command, input=given, stdout=subprocess.PIPE, stderr=subprocess.PIPE,
+                              cwd=folder, timeout=60, check=False)
+        return done.returncode, done.stdout, done.stderr
+
+    def told(self, *arguments):
+        """What is told in one line on standard error."""
+        status, printed, told = self.run_rows(*arguments)
+        self.assertEqual((status, printed), (2, b""))
+        self.assertRegex(told.decode(), r"\Arows\.py: [^\n]+\n\Z")
+        return told.decode()
+
+    def test_zeros(self):
+        wanted = b"columns 80 reads 81\n0 0000 3 torn\n"
+        self.assertEqual(self.run_rows(given=bytes(8192)), (0, wanted, b""))
+
+    def test_lengths(self):
+        for length in (0, 4096, 8191, 8193, 100000):
+            self.assertEqual(self.run_rows(given=bytes(length)), (0, b"refused 1\n", b""), length)
+
+    def test_sample(self):
+        name = os.path.join(ROOT, "crates", "rows", "stdin")
+        with open(name, "rb") as file:
+            dump = file.read()
+        with open(os.path.join(ROOT, "crates", "rows", "stdout"), "rb") as file:
+            wanted = file.read()
+        self.assertEqual(self.run_rows(given=dump), (0, wanted, b""))
+        with tempfile.TemporaryDirectory() as folder:
+            self.assertEqual(self.run_rows(name, folder=folder), (0, wanted, b""))
+
+    def test_text(self):
+        dump = b"|HERD\x01\xff\x50\x01".ljust(4096, b"A") + bytes(4096)
+        wanted = b"columns 80 reads 50\n0 0000 3 6 ||HERD.|\n1 0150 0 torn |" + b"A" * 40 + b"|\n"
+        self.assertEqual(self.run_rows("--text", given=dump), (0, wanted, b""))
+        with tempfile.TemporaryDirectory() as folder:
+            with open(os.path.join(folder, "dump"), "wb") as file:
+                file.write(dump)
+            self.assertEqual(self.run_rows("dump", "--text", folder=folder), (0, wanted, b""))
+
+    def test_bad_arguments(self):
+        for arguments in (["a", "b"], ["--txt"], ["-h"], ["--text", "a", "b"]):
+            self.assertIn("[--text] [FILE]", self.told(*arguments))
+
+    def test_bad_files(self):
+        self.assertIn("no/such", self.told("no/such"))
+        self.assertIn("directory", self.told(HERE))
+
+    def test_no_library(self):
+        with mock.patch.dict(os.environ, RAINBOW_LIBRARY="/no/such/librainbow.so"):
+            self.assertIn("make library", self.told())
+
+
+class Finding(unittest.TestCase):
+    """Where the library is looked for."""
+
+    script = ("import sys; sys.path.insert(0, sys.argv[1])\n"
+              "try:\n    import rainbow; print(rainbow.library._name)\n"
+              "except (OSError, ImportError) as error:\n    print(type(error).__name__, error)")
+
+    def imported(self, folder=HERE, **environment):
+        """What an import of rainbow.py in a folder comes to, in an environment."""
+        outer = {name: value for name, value in os.environ.items() if name != "RAINBOW_LIBRARY"}
+        done = subprocess.run([sys.executable, "-c", self.script, folder], stdout=subprocess.PIPE,
+                              env={**outer, **environment}, cwd=ROOT, timeout=60, check=True)
+        return done.stdout.decode()
+
+    def test_named_file_is_not_there(self):
+        told = self.imported(RAINBOW_LIBRARY="/no/such/librainbow.so")
+        self.assertRegex(told, r"\AOSError librainbow cannot be loaded "
+                               r"\(/no/such/librainbow\.so: [^\n]*\): run `make library`, "
+                               r"or set RAINBOW_LIBRARY to the library's file\n\Z")
+
+    def test_named_file_is_another_library(self):
+        other = sys.modules["_ctypes"].__file__
+        told = self.imported(RAINBOW_LIBRARY=other)
+        self.assertRegex(told, r"\AImportError a function of librainbow is missing \(.*version\)\n")
+
+    def test_named_file(self):
+        """A name with no folder is a file of the working folder, not one of the loader's."""
+        file = self.library_file()
+        with tempfile.TemporaryDirectory() as folder:
+            shutil.copy(file, os.path.join(folder, "other.so"))
+            name = os.path.relpath(os.path.join(folder, "other.so"), ROOT)
+            told = self.imported(RAINBOW_LIBRARY=name)
+            self.assertEqual(told, os.path.join(folder, "other.so") + "\n")
+        self.assertRegex(self.imported(RAINBOW_LIBRARY="other.so"), r"\AOSError .*/other\.so: ")
+
+    def test_installed(self):
+        file = self.library_file()
+        with tempfile.TemporaryDirectory() as folder:
+            os.mkdir(os.path.join(folder, "python"))
+            shutil.copy(os.path.join(HERE, "rainbow.py"), os.path.join(folder, "python"))
+            shutil.copy(file, os.path.join(folder, "librainbow.so.2"))
+            told = self.imported(os.path.join(folder, "python"), LD_LIBRARY_PATH=folder)
+            self.assertEqual(told, "librainbow.so.2\n")
+
+    def library_file(self):
+        """The file of the library that is being tested."""
+        name = rainbow.library._name
+        if not os.path.isabs(name):
+            self.skipTest("the library came from the loader")
+        return name
+
+    def tried(self, found, **environment):
+        """The places that are tried, one after the other, if the library is at none."""
+        with mock.patch.dict(os.environ, environment), \
+                mock.patch("ctypes.CDLL", side_effect=OSError("it is not there")) as load, \
+                mock.patch("ctypes.util.find_library", return_value=found):
+            if "RAINBOW_LIBRARY" not in environment:
+                os.environ.pop("RAINBOW_LIBRARY", None)
+            with self.assertRaisesRegex(OSError, "it is not there.*make library.*RAINBOW_LIBRARY"):
+                rainbow.load_library()
+        return [call[0][0] for call in load.call_args_list]
+
+    def test_order(self):
+        built = os.path.join(os.path.realpath(ROOT), "target", "library", "librainbow.so")
+        places = [built, "librainbow.so.2", "librainbow.so"]
+        self.assertEqual(self.tried(None), places)
+        self.assertEqual(self.tried("librainbow.so.9"), places + ["librainbow.so.9"])
+        self.assertEqual(self.tried("librainbow.so.9", RAINBOW_LIBRARY="/a/b"), ["/a/b"])
+        self.assertEqual(self.tried(None, RAINBOW_LIBRARY=""), places)
+
+    def test_version(self):
+        self.assertEqual(rainbow.library.rainbow_version(), rainbow.VERSION)
+        other = types.SimpleNamespace(rainbow_version=lambda: 3)
+        with self.assertRaisesRegex(ImportError, "version 3, .* for 2$"):
+            rainbow.set_up(other)
+
+    def test_function_missing(self):
+        other = types.SimpleNamespace(rainbow_version=lambda: 2)
+        with self.assertRaisesRegex(ImportError, "rainbow_power_up"):
+            rainbow.set_up(other)
+
+
+if __name__ == "__main__":
+    unittest.main()
