@@ -13,7 +13,8 @@
 # make check      layout, documents, the model's tests, what the programs must write, the headers, the Cargo package
 # make docs       the documents against the tree
 # make host       the library from C, C++, Rust and Python, each call beside the model; the package, the installation
-# make compare    the row lister beside the model on 5,000 screens that are hard to walk, the tube on 500
+# make compare    the row lister beside the model on 5,000 screens that are hard to walk, the tube on 500; the monitor's
+#                 scripts
 # make mutants    mutants of the code, each against the stored runs; CRATES='a b' for some crates
 # make bench      the library beside plain C, in time and in instructions
 # make emulated   the kit's own archive and programs, which are for x86-64, beside the library of this machine
@@ -38,9 +39,11 @@ PACKAGE = target/rust/rainbow
 PROGRAMS = rows tube monitor
 
 # Two libraries are made of the same source: target/library by rustc, for the machine at hand, and target/library-kit by
-# the kit's compiler, for x86-64 alone. LIBRARY is the one that a part of make host or make bench tries.
+# the kit's compiler, for x86-64 alone. LIBRARY is the one that a part of make host or make bench tries; KIT says
+# whether there is the second.
+KIT := $(if $(filter x86_64,$(MACHINE)),$(shell command -v rt))
 LIBRARY ?= target/library
-LIBRARIES = target/library $(if $(filter x86_64,$(MACHINE)),target/library-kit)
+LIBRARIES = target/library $(if $(KIT),target/library-kit)
 ARCHIVE = $(LIBRARY)/librainbow.a
 
 # Where the sanitizers or valgrind cannot be had, SANITIZE and VALGRIND may be empty.
@@ -51,7 +54,9 @@ LOAD = $(MODEL)/load
 STRICT = -O2 -Iinclude -Wall -Wextra -Wpedantic -Wconversion -Wshadow -Werror
 C = $(CC) -std=c11 $(STRICT)
 CPP = $(CXX) -std=c++17 $(STRICT) -x c++
-FAULTS = 1 2 3 4 5 6 7 8 9 10 11 12 13 14
+FAULTS = 1 2 3 4 5 6 7 8 9 10 11 12 13
+# A fault of the second of two libraries.
+BOTH_FAULT = 14
 
 # The folder that make expected and make scripts write to.
 INTO ?= crates
@@ -141,9 +146,11 @@ DESTDIR ?=
 INTO_PREFIX = $(DESTDIR)$(abspath $(PREFIX))
 HEADERS = rainbow.h rainbow_computer.h
 
-# What was made before is installed as it is, so that a user who may write there needs no cargo.
+# A user who may write to PREFIX but has no cargo installs what was made before.
 install:
-	@test -e target/library/librainbow.a -a -e target/native/monitor || $(MAKE) -s library programs
+	@if command -v $(CARGO) >/dev/null; then $(MAKE) -s library programs; \
+	elif ! test -e target/library/$(SHARED) -a -e target/native/monitor; then \
+		echo 'make install: no cargo, and make library programs has not been run' >&2; exit 1; fi
 	@mkdir -p $(INTO_PREFIX)/include $(INTO_PREFIX)/lib/pkgconfig $(INTO_PREFIX)/bin
 	@for header in $(HEADERS); do install -m 644 include/$$header $(INTO_PREFIX)/include/$$header; done
 	@install -m 644 target/library/librainbow.a $(INTO_PREFIX)/lib/librainbow.a
@@ -166,10 +173,12 @@ examples: library
 python: library
 	$(PYTHON) -W error -m unittest discover -q -s python
 
+# The monitor's stored scripts, which the gate runs by the kit's monitor, and screens that are chosen here.
 compare: model programs
+	cd crates/monitor/data && $(abspath target/native/monitor) $$(cat ../args) | cmp ../stdout -
 	$(MODEL)/compare_rows target/native/rows 5000
 	$(MODEL)/compare_tube target/native/tube 500
-ifeq ($(MACHINE),x86_64)
+ifneq ($(KIT),)
 	rt check rows tube
 	$(MODEL)/compare_rows 'tools/run --kit rows' 5000
 	$(MODEL)/compare_tube 'tools/run --kit tube' 500
@@ -180,12 +189,12 @@ mutants: model
 
 # Every library that this machine can run, each by itself and then beside each other; what is more of rustc's; the
 # package, the installation, the examples and Python.
-host: library programs $(if $(filter x86_64,$(MACHINE)),kit-library)
+host: library programs $(if $(KIT),kit-library)
 	@for library in $(LIBRARIES); do \
 		echo "-- $$library"; $(MAKE) host-with LIBRARY=$$library || exit 1; done
 	$(MAKE) host-more package-tests examples python
-	$(if $(filter x86_64,$(MACHINE)),$(MAKE) host-both)
-	MAKE='$(MAKE)' CC='$(CC)' tools/installed
+	$(if $(KIT),$(MAKE) host-both)
+	CC='$(CC)' PYTHON='$(PYTHON)' tools/installed
 
 host-with: host-load host-c host-memory
 
@@ -194,22 +203,25 @@ host-load: model
 	$(LOAD) --calls $(CALLS) $(LIBRARY)/librainbow.so
 	@mkdir -p target/host
 	@for fault in $(FAULTS); do \
-		$(LOAD) --fault $$fault --against $(LIBRARY)/librainbow.so $(LIBRARY)/librainbow.so > target/host/fault.txt; \
+		$(LOAD) --fault $$fault $(LIBRARY)/librainbow.so > target/host/fault.txt; \
 		test $$? -eq 1 || { echo "fault $$fault is not found"; exit 1; }; \
 		test $$(grep -c '^  ' target/host/fault.txt) -le 10 || { echo "fault $$fault is not shrunk"; exit 1; }; \
 	done
-	@echo 'the faults are found: $(FAULTS)'
+	@$(LOAD) --fault $(BOTH_FAULT) --against $(LIBRARY)/librainbow.so $(LIBRARY)/librainbow.so > target/host/fault.txt; \
+		test $$? -eq 1 || { echo 'fault $(BOTH_FAULT) is not found'; exit 1; }
+	@echo 'the faults are found: $(FAULTS) $(BOTH_FAULT)'
 
 host-both: model
 	$(LOAD) --calls $(CALLS) --against target/library/librainbow.so target/library-kit/librainbow.so
 
-# Each header by itself, twice, and the examples, none of them linked.
-header-c header-c++:
+# Each header by itself, twice, and the examples, none of them linked; and rainbow.h beside the functions and structs of
+# crates/.
+header-c header-c++: rust
 	@mkdir -p target/host
 	@printf '#include "rainbow.h"\n#include "rainbow.h"\n' > target/host/$@.c
 	@printf '#include "rainbow_computer.h"\n#include "rainbow_computer.h"\n' > target/host/$@-computer.c
 	$(if $(filter header-c,$@),$(C),$(CPP)) -fsyntax-only target/host/$@.c target/host/$@-computer.c \
-		host/example/*.c examples/show.c $(if $(filter header-c,$@),host/serve.c)
+		host/example/*.c examples/show.c $(if $(filter header-c,$@),host/serve.c $(PACKAGE)/prototypes.c)
 
 # The examples run, as C and as C++.
 host-c: header-c header-c++
@@ -257,7 +269,7 @@ emulated: model archive library programs
 	$(MODEL)/compare_rows 'tools/run --kit rows' 200
 	$(MODEL)/compare_tube 'tools/run --kit tube' 50
 
-bench: library $(if $(filter x86_64,$(MACHINE)),kit-library)
+bench: library $(if $(KIT),kit-library)
 	@mkdir -p target/host
 	@for library in $(LIBRARIES); do \
 		$(C) -O3 bench/bench.c bench/plain.c $$library/librainbow.a -o target/host/bench || exit 1; \

@@ -37,13 +37,14 @@ typedef struct rainbow_row {
     uint8_t refusal;
     uint8_t kind;   /* 0 to 7 */
     uint8_t count;  /* cells before FF, or RAINBOW_TORN, or RAINBOW_DARK */
-    uint8_t cells;  /* cells that the row has: its capacity if it is torn, none if it is dark */
+    uint8_t cells;  /* cells that the row has: its capacity if it is torn, none if it is dark; 132 at the most */
     uint16_t start; /* its place in screen memory */
 } rainbow_row;
 
 RAINBOW_SIZE(rainbow_row, 6);
 
-/* The bytes of a row's text with the 0 after it, at the most. */
+/* The pairs of a record, and the bytes of a row's text with the 0 after it, at the most. */
+#define RAINBOW_PAIRS 132
 #define RAINBOW_TEXT_BYTES 133
 
 /* What a number of refusal says. */
@@ -174,6 +175,8 @@ static inline rainbow_row rainbow_computer_row(const rainbow_computer *c, size_t
         said.cells = (uint8_t)((said.kind & 3) == 3 ? capacity : capacity / 2);
     if (said.count == RAINBOW_DARK)
         said.cells = 0;
+    if (said.cells > RAINBOW_PAIRS) /* no drawing made this record */
+        said.cells = RAINBOW_PAIRS;
     return said;
 }
 
@@ -182,8 +185,6 @@ static inline rainbow_row rainbow_computer_row(const rainbow_computer *c, size_t
 static inline size_t rainbow_computer_text(const rainbow_computer *c, size_t row, char *text)
 {
     size_t cells = rainbow_computer_row(c, row).cells, cell;
-    if (cells >= RAINBOW_TEXT_BYTES)
-        cells = RAINBOW_TEXT_BYTES - 1;
     for (cell = 0; cell < cells; cell++) {
         uint8_t character = c->picture[row * RAINBOW_RECORD_BYTES + RAINBOW_PAIRS_AT + 2 * cell];
         text[cell] = character >= 0x20 && character < 0x7F ? (char)character : '.';

@@ -25,6 +25,7 @@ PICTURE_BYTES, LINE_BYTES = 6432, 1188
 ACCEPTED, REFUSED_LENGTH, REFUSED_ADDRESS, REFUSED_PORT = 0, 1, 2, 3
 REFUSED_CODE, REFUSED_PLACE, REFUSED_EDGES = 4, 5, 6
 ROWS, RECORD_BYTES, KIND_AT, COUNT_AT, PAIRS_AT = 24, 268, 2, 3, 4
+PAIRS = 132
 TORN, DARK = 255, 254
 FIRST_SCAN, LAST_SCAN = 1, 10
 
@@ -57,7 +58,7 @@ class Row(NamedTuple):
     start: int  # its place in screen memory
     kind: int  # 0 to 7
     count: int  # cells before FF, or TORN, or DARK
-    cells: int  # cells that it has: its capacity if it is torn, none if it is dark
+    cells: int  # cells that it has, 132 at the most: its capacity if torn, none if dark
 
     @property
     def torn(self):
@@ -272,7 +273,7 @@ class Computer(ctypes.Structure):
         record = self._record(row)
         kind, count = record[KIND_AT], record[COUNT_AT]
         capacity = self.columns if kind & 3 == 3 else self.columns // 2
-        cells = {TORN: capacity, DARK: 0}.get(count, count)
+        cells = {TORN: capacity, DARK: 0}.get(count, min(count, PAIRS))
         return Row(int.from_bytes(record[:KIND_AT], "big"), kind, count, cells)
 
     def text(self, row):

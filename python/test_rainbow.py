@@ -21,6 +21,8 @@ from rainbow import Computer, Refused, Row
 
 HERE = os.path.dirname(os.path.abspath(__file__))
 ROOT = os.path.dirname(HERE)
+if os.environ.get("RAINBOW_LIBRARY"):  # the example is run in other folders too
+    os.environ["RAINBOW_LIBRARY"] = os.path.abspath(os.environ["RAINBOW_LIBRARY"])
 
 SCREEN, ATTRIBUTE = 0xEE000, 0xEF000
 DARK_ROW = Row(0, 3, rainbow.DARK, 0)
@@ -239,26 +241,29 @@ class Calls(Case):
         self.assertEqual(self.computer.power_up(), 72)
         self.assertEqual(bytes(self.computer), drawn)
 
+    def settings(self):
+        """What the machine is asked."""
+        computer = self.computer
+        return (computer.columns, computer.dots, computer.blanked, computer.graphics,
+                computer.scroll_latch)
+
     def test_settings(self):
-        seen = lambda: (self.computer.columns, self.computer.dots, self.computer.blanked,
-                        self.computer.graphics, self.computer.scroll_latch)
-        self.assertEqual(seen(), (80, 800, True, False, 0))
+        self.assertEqual(self.settings(), (80, 800, True, False, 0))
         for port, code in ((0x04, 0x10), (0x0A, 0x06), (0x0C, 0x02), (0x10C, 0x05)):
             self.computer.write_port(port, code)
-        self.assertEqual(seen(), (132, 1188, False, True, 6))
+        self.assertEqual(self.settings(), (132, 1188, False, True, 6))
 
     def test_machine(self):
-        machine = lambda: self.computer.machine
         self.computer.tick()
-        self.assertTrue(machine().interrupt)
+        self.assertTrue(self.computer.machine.interrupt)
         for port, code, field, value in (
                 (0x0C, 0x09, "interrupt", False), (0x0C, 0x08, "blink", True),
                 (0x10C, 0x0A, "reverse", True), (0x10C, 0x0B, "reverse", False),
                 (0x0C, 0x00, "watchdog", True), (0x10C, 0x00, "watchdog", False),
                 (0x04, 0x30, "hertz50", True), (0x04, 0x20, "hertz50", False)):
             self.computer.write_port(port, code)
-            self.assertIs(getattr(machine(), field), value, (port, code))
-        self.assertIn("blink=True", repr(machine()))
+            self.assertIs(getattr(self.computer.machine, field), value, (port, code))
+        self.assertIn("blink=True", repr(self.computer.machine))
 
     def test_ports_refused(self):
         self.refused(3, self.computer.write_port, 5, 0)
@@ -321,7 +326,7 @@ class Calls(Case):
 
     def test_text_of_a_count_too_great(self):
         self.computer.picture[rainbow.COUNT_AT] = 200
-        self.assertEqual(self.computer.row(0).cells, 200)
+        self.assertEqual(self.computer.row(0).cells, 132)
         self.assertEqual(self.computer.text(0), "." * 80 + " " * 52)
 
     def test_marked_rows(self):
@@ -415,10 +420,11 @@ class Headers(unittest.TestCase):
 
     def test_numbers(self):
         wanted = defines(self.calls)
-        self.assertEqual(len(wanted), 26)
+        self.assertGreaterEqual(len(wanted), 26)
         self.assertEqual({name: getattr(rainbow, name, None) for name in wanted}, wanted)
         pairs = (rainbow.RECORD_BYTES - rainbow.PAIRS_AT) // 2
-        self.assertEqual(defines(self.whole), {"TEXT_BYTES": pairs + 1})
+        self.assertEqual(rainbow.PAIRS, pairs)
+        self.assertEqual(defines(self.whole), {"PAIRS": pairs, "TEXT_BYTES": pairs + 1})
 
     def test_sizes(self):
         wanted = {**sizes(self.calls), **sizes(self.whole)}
@@ -587,8 +593,8 @@ class Runs(Case):
     def changed_rows(self, before):
         """The rows whose records differ from those of an earlier picture."""
         after = bytes(self.computer.picture)
-        record = lambda picture, row: picture[row * 268:(row + 1) * 268]
-        return [row for row in range(24) if record(before, row) != record(after, row)]
+        records = [slice(row * 268, (row + 1) * 268) for row in range(24)]
+        return [row for row, record in enumerate(records) if before[record] != after[record]]
 
     def test_kept_picture(self):
         seen = {}
@@ -687,11 +693,11 @@ class Finding(unittest.TestCase):
               "try:\n    import rainbow; print(rainbow.library._name)\n"
               "except (OSError, ImportError) as error:\n    print(type(error).__name__, error)")
 
-    def imported(self, folder=HERE, **environment):
-        """What an import of rainbow.py in a folder comes to, in an environment."""
+    def imported(self, folder=HERE, work=ROOT, **environment):
+        """What an import of a folder's rainbow.py comes to, in a working folder."""
         outer = {name: value for name, value in os.environ.items() if name != "RAINBOW_LIBRARY"}
         done = subprocess.run([sys.executable, "-c", self.script, folder], stdout=subprocess.PIPE,
-                              env={**outer, **environment}, cwd=ROOT, timeout=60, check=True)
+                              env={**outer, **environment}, cwd=work, timeout=60, check=True)
         return done.stdout.decode()
 
     def test_named_file_is_not_there(self):
@@ -701,7 +707,9 @@ class Finding(unittest.TestCase):
                                r"or set RAINBOW_LIBRARY to the library's file\n\Z")
 
     def test_named_file_is_another_library(self):
-        other = sys.modules["_ctypes"].__file__
+        other = getattr(sys.modules["_ctypes"], "__file__", None)
+        if other is None:
+            self.skipTest("this Python has no library of its own")
         told = self.imported(RAINBOW_LIBRARY=other)
         self.assertRegex(told, r"\AImportError a function of librainbow is missing \(.*version\)\n")
 
@@ -710,10 +718,10 @@ class Finding(unittest.TestCase):
         file = self.library_file()
         with tempfile.TemporaryDirectory() as folder:
             shutil.copy(file, os.path.join(folder, "other.so"))
-            name = os.path.relpath(os.path.join(folder, "other.so"), ROOT)
-            told = self.imported(RAINBOW_LIBRARY=name)
-            self.assertEqual(told, os.path.join(folder, "other.so") + "\n")
-        self.assertRegex(self.imported(RAINBOW_LIBRARY="other.so"), r"\AOSError .*/other\.so: ")
+            told = self.imported(work=folder, RAINBOW_LIBRARY="other.so")
+            self.assertEqual(told, os.path.join(os.path.realpath(folder), "other.so") + "\n")
+            told = self.imported(RAINBOW_LIBRARY="other.so", LD_LIBRARY_PATH=folder)
+            self.assertRegex(told, r"\AOSError .*/other\.so: ")
 
     def test_installed(self):
         file = self.library_file()

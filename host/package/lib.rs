@@ -45,6 +45,7 @@
 //! picture; the other functions that are public are parts of these calls, and are as safe to call.
 #![no_std]
 #![cfg_attr(not(rainbow_c), forbid(unsafe_code))]
+#![cfg_attr(rainbow_c, deny(unsafe_code))]
 
 #[cfg(not(target_pointer_width = "64"))]
 compile_error!("the proofs of this library are of targets whose usize has 64 bits");

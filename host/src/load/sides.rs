@@ -110,20 +110,19 @@ impl Sides {
 
     fn compare(&self, buffer: Buffer, far: bool) -> Result<(), Differs> {
         let model = self.model.bytes(buffer);
-        same(self.library.differs(buffer, model, far, NAMES))?;
-        match &self.second {
-            Some(second) if far => {
-                let bytes = self.library.content(buffer);
-                same(second.differs(buffer, bytes, far, LIBRARIES))
-            }
-            _ => Ok(()),
-        }
+        same(self.library.differs(buffer, model, far, NAMES))
     }
 
-    /// Every byte on both sides.
+    /// Every byte on all sides.
     pub fn compare_all(&self) -> Result<(), Differs> {
-        let compare = |buffer: &Buffer| self.compare(*buffer, true);
-        BUFFERS.iter().try_for_each(compare)
+        for buffer in BUFFERS {
+            self.compare(buffer, true)?;
+            if let Some(second) = &self.second {
+                let bytes = self.library.content(buffer);
+                same(second.differs(buffer, bytes, true, LIBRARIES))?;
+            }
+        }
+        Ok(())
     }
 
     /// What document 01 demands of the library alone, whatever the model says.

@@ -4,18 +4,19 @@ use crate::rattle::code::{self, Token};
 
 const HEAD: &str = include_str!("../../package/c.rs");
 
-struct Parameter<'a> {
-    name: &'a str,
-    kind: String,
+/// A parameter, or a field.
+pub struct Parameter<'a> {
+    pub name: &'a str,
+    pub kind: String,
 }
 
 /// The head of a function that is exported.
-struct Function<'a> {
+pub struct Function<'a> {
     module: &'a str,
     remark: Vec<&'a str>,
-    name: &'a str,
-    parameters: Vec<Parameter<'a>>,
-    answer: String,
+    pub name: &'a str,
+    pub parameters: Vec<Parameter<'a>>,
+    pub answer: String,
 }
 
 fn word<'a>(text: &'a str, token: &Token) -> &'a str {
@@ -42,7 +43,7 @@ fn parameters<'a>(text: &'a str, tokens: &[Token], close: &str) -> Vec<Parameter
 }
 
 /// The remark above the line that a token is in.
-fn remark<'a>(text: &'a str, at: usize) -> Vec<&'a str> {
+fn remark(text: &str, at: usize) -> Vec<&str> {
     let above = text[..at].lines().collect::<Vec<_>>();
     let above = &above[..above.len().saturating_sub(1)];
     let is_above = |line: &&&str| line.starts_with("//") || line.starts_with("#[");
@@ -56,7 +57,7 @@ fn remark<'a>(text: &'a str, at: usize) -> Vec<&'a str> {
 }
 
 /// The exported functions of a file.
-fn functions<'a>(module: &'a str, text: &'a str) -> Vec<Function<'a>> {
+pub fn functions<'a>(module: &'a str, text: &'a str) -> Vec<Function<'a>> {
     let tokens = code::tokens(text);
     let mut functions = Vec::new();
     for (at, token) in tokens.iter().enumerate() {
@@ -139,14 +140,20 @@ impl Parameter<'_> {
     }
 }
 
+/// The fields of a struct.
+pub fn fields<'a>(text: &'a str, name: &str) -> Vec<Parameter<'a>> {
+    let tokens = code::tokens(text);
+    let is_struct =
+        |pair: &[Token]| word(text, &pair[0]) == "struct" && word(text, &pair[1]) == name;
+    match tokens.windows(2).position(is_struct) {
+        Some(at) => parameters(text, &tokens[at + 3..], "}"),
+        None => Vec::new(),
+    }
+}
+
 /// The machine as bytes, from the fields that it has.
 fn machine_bytes(machine: &str) -> String {
-    let tokens = code::tokens(machine);
-    let is_struct = |at: &usize| {
-        word(machine, &tokens[*at]) == "struct" && word(machine, &tokens[*at + 1]) == "Machine"
-    };
-    let at = (0..tokens.len() - 1).find(is_struct).unwrap_or(0);
-    let fields = parameters(machine, &tokens[at + 3..], "}");
+    let fields = fields(machine, "Machine");
     let mut text = String::from(
         "/// The machine as C hands it over. A bool is a byte here, and every byte but 0 is true.\n\
          #[repr(C)]\npub struct MachineBytes {\n",
@@ -163,12 +170,8 @@ fn machine_bytes(machine: &str) -> String {
     text + "        }\n    }\n}\n"
 }
 
-/// The whole file, of the files of crate rainbow by their names, and the file that declares the machine.
-pub fn file(rainbow: &[(String, String)], machine: &str) -> String {
-    let functions: Vec<Function> = rainbow
-        .iter()
-        .flat_map(|(module, text)| functions(module, text))
-        .collect();
+/// The whole file, of the functions of crate rainbow, its files by their names, and the file that declares the machine.
+pub fn file(functions: &[Function], rainbow: &[(String, String)], machine: &str) -> String {
     let mut modules: Vec<&str> = functions.iter().map(|one| one.module).collect();
     modules.dedup();
     let mut answers: Vec<&str> = functions.iter().map(|one| one.answer.as_str()).collect();
@@ -182,7 +185,7 @@ pub fn file(rainbow: &[(String, String)], machine: &str) -> String {
     uses.sort_unstable();
     let head = HEAD.replace("// USES\n", &uses.concat());
     let mut text = head + "\n" + &machine_bytes(machine);
-    for function in &functions {
+    for function in functions {
         text += &format!("\n{}", function.text());
     }
     text
@@ -231,7 +234,8 @@ pub struct Machine {
 
     #[test]
     fn pointers_and_lengths_are_handed_on() {
-        let text = file(&[("screen".to_string(), SCREEN.to_string())], MACHINE);
+        let files = [("screen".to_string(), SCREEN.to_string())];
+        let text = file(&functions("screen", SCREEN), &files, MACHINE);
         let wanted = "
 /// Draws the picture
 /// afresh.

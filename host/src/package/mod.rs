@@ -1,6 +1,7 @@
 //! The Cargo package that is made from crates/: the code without what the prover alone reads (`make rust`).
 pub mod c;
 pub mod module;
+pub mod prototypes;
 pub mod same;
 
 use crate::rattle::kit;
@@ -10,14 +11,18 @@ use std::fs;
 use std::io;
 use std::path::{Path, PathBuf};
 
-/// The crates that a user's program can name; those of INNER have no call and no constant for one.
-const LIBRARIES: [&str; 4] = ["rainbow", "listing", "commands", "ascii"];
-const PROGRAMS: [&str; 3] = ["rows", "tube", "monitor"];
+/// The package has these crates and all that they are made of.
+const CRATES: [&str; 4] = ["rainbow", "rows", "tube", "monitor"];
+/// Those that have no call and no constant for a user.
 const INNER: [&str; 5] = ["dc011", "dc012", "diagnostic", "readers", "dots"];
+/// Those that are of use to the programs alone.
+const OF_PROGRAMS: [&str; 2] = ["ascii", "commands"];
 
 /// The crate with the names of C, and the file that C calls.
 const C_NAMES: &str = "rainbow";
 const C_FILE: &str = "src/c.rs";
+/// A C file that compiles if the header says the same.
+const PROTOTYPES: &str = "prototypes.c";
 
 /// A file of the package, below its folder.
 struct Made {
@@ -123,27 +128,84 @@ fn modules(tree: &Tree) -> String {
     let mut names: Vec<&str> = tree.libraries().map(|one| one.name.as_str()).collect();
     names.retain(|name| *name != C_NAMES && !is_kit(name));
     names.sort_unstable();
-    let mut lines = format!("#[cfg(rainbow_c)]\nmod c;\n#[cfg(rainbow_c)]\nmod {C_NAMES};\n\n");
+    let mut lines = format!(
+        "#[cfg(rainbow_c)]\n#[allow(unsafe_code)]\nmod c;\n#[cfg(rainbow_c)]\nmod {C_NAMES};\n\n"
+    );
     for name in names {
-        let public = if INNER.contains(&name) { "" } else { "pub " };
-        lines += &format!("{public}mod {name};\n");
+        let how = match name {
+            _ if INNER.contains(&name) => "",
+            _ if OF_PROGRAMS.contains(&name) => "#[doc(hidden)]\npub ",
+            _ => "pub ",
+        };
+        lines += &format!("{how}mod {name};\n");
     }
     lines
 }
 
+fn wrong(why: impl Into<String>) -> io::Error {
+    io::Error::new(io::ErrorKind::InvalidData, why.into())
+}
+
+fn header(root: &Path) -> io::Result<String> {
+    fs::read_to_string(root.join("include/rainbow.h"))
+}
+
 /// RAINBOW_VERSION of the header.
 fn version(root: &Path) -> io::Result<String> {
-    let header = fs::read_to_string(root.join("include/rainbow.h"))?;
-    let version = header
-        .lines()
-        .find_map(|line| line.strip_prefix("#define RAINBOW_VERSION "));
-    let missing = || io::Error::new(io::ErrorKind::InvalidData, "rainbow.h has no version");
-    version.map(str::to_string).ok_or_else(missing)
+    let header = header(root)?;
+    let mut lines = header.lines();
+    let version = lines.find_map(|line| line.strip_prefix("#define RAINBOW_VERSION "));
+    let version = version.ok_or_else(|| wrong("rainbow.h has no version"))?;
+    Ok(version.to_string())
+}
+
+/// What a C compiler links, and what it compares the header with.
+fn for_c(root: &Path, tree: &Tree) -> io::Result<(String, String)> {
+    let mut exported = Vec::new();
+    for source in files_of(root, C_NAMES)? {
+        let stem = Path::new(&source).file_stem().unwrap_or_default();
+        let stem = stem.to_string_lossy().into_owned();
+        exported.push((stem, fs::read_to_string(root.join(&source))?));
+    }
+    let functions = exported
+        .iter()
+        .flat_map(|(module, text)| c::functions(module, text));
+    let functions: Vec<c::Function> = functions.collect();
+    let header = header(root)?;
+    let mut there = prototypes::declared(&header);
+    let mut here: Vec<&str> = functions.iter().map(|one| one.name).collect();
+    there.sort_unstable();
+    here.sort_unstable();
+    if there != here {
+        let other = there
+            .iter()
+            .chain(&here)
+            .find(|name| !there.contains(name) || !here.contains(name));
+        let name = other.unwrap_or(&"a function twice");
+        return Err(wrong(format!(
+            "rainbow.h and crate {C_NAMES} do not both have {name}"
+        )));
+    }
+    let mut texts = Vec::new();
+    for one in tree.libraries().filter(|one| !is_kit(&one.name)) {
+        for source in files_of(root, &one.name)? {
+            texts.push(fs::read_to_string(root.join(source))?);
+        }
+    }
+    let mut structs: Vec<(&str, &str)> = Vec::new();
+    for text in &texts {
+        let after = text.split("#[repr(C)]\npub struct ").skip(1);
+        structs.extend(after.filter_map(|rest| Some((rest.split_once(' ')?.0, text.as_str()))));
+    }
+    let machine = structs.iter().find(|(name, _)| *name == "Machine");
+    let (_, machine) = machine.ok_or_else(|| wrong("no crate declares the machine"))?;
+    let c_file = c::file(&functions, &exported, machine);
+    Ok((c_file, prototypes::file(&functions, &structs)))
 }
 
 /// Every file of the package.
 fn files(root: &Path) -> io::Result<Files> {
-    let tree = Tree::of(root, &[&LIBRARIES[..], &PROGRAMS[..]].concat())?;
+    let tree = Tree::of(root, &CRATES)?;
     let mut files = Files::new();
     for one in tree.crates.iter().filter(|one| !is_kit(&one.name)) {
         files.extend(of_crate(root, one)?);
@@ -151,14 +213,9 @@ fn files(root: &Path) -> io::Result<Files> {
     for (name, text) in kit::LIBRARIES {
         files.insert(format!("src/kit/{name}.rs").into(), kit_file(text));
     }
-    let mut exported = Vec::new();
-    for source in files_of(root, C_NAMES)? {
-        let stem = Path::new(&source).file_stem().unwrap_or_default();
-        let stem = stem.to_string_lossy().into_owned();
-        exported.push((stem, fs::read_to_string(root.join(&source))?));
-    }
-    let machine = fs::read_to_string(root.join("crates/machine/src/lib.rt"))?;
-    files.insert(C_FILE.into(), by_hand(c::file(&exported, &machine)));
+    let (c_file, prototypes) = for_c(root, &tree)?;
+    files.insert(C_FILE.into(), by_hand(c_file));
+    files.insert(PROTOTYPES.into(), by_hand(prototypes));
     let lib = include_str!("../../package/lib.rs").replace("// MODULES\n", &modules(&tree));
     files.insert("src/lib.rs".into(), by_hand(lib));
     let cargo = include_str!("../../package/Cargo.toml").replace("VERSION", &version(root)?);

@@ -109,7 +109,7 @@ fn added(made: &[Token], before: Option<&Token>) -> usize {
     if starts(made, &["#", "[", "derive"]) {
         return block(made, "[", "]");
     }
-    if starts(made, &["(", "crate", ")"]) && before.map_or(false, |token| token.text == "pub") {
+    if starts(made, &["(", "crate", ")"]) && before.is_some_and(|token| token.text == "pub") {
         return 3;
     }
     0

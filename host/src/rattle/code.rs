@@ -30,7 +30,7 @@ fn ghost_parts(text: &str) -> Vec<Range<usize>> {
         let code = line.trim_start();
         let from = at + line.len() - code.len();
         at += line.len();
-        if parts.last().map_or(false, |part| from < part.end) {
+        if parts.last().is_some_and(|part| from < part.end) {
             continue;
         }
         if code.starts_with("ghost use ") {
