@@ -1,6 +1,9 @@
 //! A model of document 01 in ordinary Rust, written from the document alone. It makes the output
 //! that the programs of the gate must write, so that the proved code is held by something beside
 //! its own definitions.
+//!
+//! Beside the model: `load` and `rainbow` drive a library; `rattle`, `mutants`, `package` and `docs`
+//! read the tree as text, and the model uses none of them.
 pub mod chain;
 pub mod docs;
 pub mod dots;

@@ -236,6 +236,14 @@ fn below(folder: &Path, found: &mut Vec<PathBuf>) -> io::Result<()> {
     Ok(())
 }
 
+/// The files below src/ in a folder that are no files of the package.
+fn others(files: &Files, into: &Path) -> io::Result<Vec<PathBuf>> {
+    let mut found = Vec::new();
+    below(&into.join("src"), &mut found)?;
+    found.retain(|path| !files.contains_key(path.strip_prefix(into).unwrap_or(path)));
+    Ok(found)
+}
+
 /// Writes the files that are not there yet as they should be, and takes away all others below src/.
 fn put(files: &Files, into: &Path) -> io::Result<()> {
     for (name, made) in files {
@@ -245,12 +253,8 @@ fn put(files: &Files, into: &Path) -> io::Result<()> {
             fs::write(path, &made.text)?;
         }
     }
-    let mut found = Vec::new();
-    below(&into.join("src"), &mut found)?;
-    for path in found {
-        if !files.contains_key(path.strip_prefix(into).unwrap_or(&path)) {
-            fs::remove_file(path)?;
-        }
+    for path in others(files, into)? {
+        fs::remove_file(path)?;
     }
     Ok(())
 }
@@ -276,9 +280,27 @@ fn check(root: &Path, files: &Files, into: &Path) -> Result<same::Compared, Stri
     Ok(all)
 }
 
+fn told(error: io::Error) -> String {
+    error.to_string()
+}
+
 /// Writes the package to a folder, and compares what is there then with crates/.
 pub fn write(root: &Path, into: &Path) -> Result<same::Compared, String> {
-    let files = files(root).map_err(|error| error.to_string())?;
-    put(&files, into).map_err(|error| error.to_string())?;
+    let files = files(root).map_err(told)?;
+    put(&files, into).map_err(told)?;
+    check(root, &files, into)
+}
+
+/// Compares a package that is there with crates/. What was written by hand has to be the same.
+pub fn compare(root: &Path, into: &Path) -> Result<same::Compared, String> {
+    let files = files(root).map_err(told)?;
+    if let Some(other) = others(&files, into).map_err(told)?.first() {
+        return Err(format!("{} is no file of the package", other.display()));
+    }
+    for (name, made) in files.iter().filter(|(_, made)| made.source.is_none()) {
+        if fs::read_to_string(into.join(name)).map_err(told)? != made.text {
+            return Err(format!("{} is not as it was written", name.display()));
+        }
+    }
     check(root, &files, into)
 }
