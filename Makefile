@@ -30,6 +30,7 @@
 .PHONY: host-with host-load host-c host-memory host-more host-both
 
 CARGO ?= cargo
+HAS_CARGO := $(shell command -v $(CARGO))
 PYTHON ?= python3
 MODEL = host/target/release
 MACHINE := $(shell uname -m)
@@ -68,7 +69,7 @@ all:
 	@cp target/log/tube.stdout target/tube.pgm
 	@echo
 	@echo 'target/tube.pgm has the picture of the tube'
-	@if command -v $(CARGO) >/dev/null; then $(MAKE) -s programs; \
+	@if [ -n '$(HAS_CARGO)' ]; then $(MAKE) -s programs; \
 	else echo 'no cargo: the programs are for x86-64 alone; tools/run runs them all the same, by the kit'; fi
 
 test:
@@ -148,7 +149,7 @@ HEADERS = rainbow.h rainbow_computer.h
 
 # A user who may write to PREFIX but has no cargo installs what was made before.
 install:
-	@if command -v $(CARGO) >/dev/null; then $(MAKE) -s library programs; \
+	@if [ -n '$(HAS_CARGO)' ]; then $(MAKE) -s library programs; \
 	elif ! test -e target/library/$(SHARED) -a -e target/native/monitor; then \
 		echo 'make install: no cargo, and make library programs has not been run' >&2; exit 1; fi
 	@mkdir -p $(INTO_PREFIX)/include $(INTO_PREFIX)/lib/pkgconfig $(INTO_PREFIX)/bin
@@ -214,14 +215,15 @@ host-load: model
 host-both: model
 	$(LOAD) --calls $(CALLS) --against target/library/librainbow.so target/library-kit/librainbow.so
 
-# Each header by itself, twice, and the examples, none of them linked; and rainbow.h beside the functions and structs of
-# crates/.
-header-c header-c++: rust
+# Each header by itself, twice, and the examples, none of them linked; with cargo also rainbow.h beside the functions and
+# structs of crates/.
+header-c header-c++: $(if $(HAS_CARGO),rust)
 	@mkdir -p target/host
 	@printf '#include "rainbow.h"\n#include "rainbow.h"\n' > target/host/$@.c
 	@printf '#include "rainbow_computer.h"\n#include "rainbow_computer.h"\n' > target/host/$@-computer.c
 	$(if $(filter header-c,$@),$(C),$(CPP)) -fsyntax-only target/host/$@.c target/host/$@-computer.c \
-		host/example/*.c examples/show.c $(if $(filter header-c,$@),host/serve.c $(PACKAGE)/prototypes.c)
+		host/example/*.c examples/show.c \
+		$(if $(filter header-c,$@),host/serve.c $(if $(HAS_CARGO),$(PACKAGE)/prototypes.c))
 
 # The examples run, as C and as C++.
 host-c: header-c header-c++
