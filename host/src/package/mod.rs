@@ -159,41 +159,44 @@ fn version(root: &Path) -> io::Result<String> {
     Ok(version.to_string())
 }
 
+/// The files of some crates, each with its text.
+fn texts(root: &Path, names: &[&str]) -> io::Result<Vec<(String, String)>> {
+    let mut texts = Vec::new();
+    for name in names {
+        for source in files_of(root, name)? {
+            let stem = Path::new(&source).file_stem().unwrap_or_default();
+            let stem = stem.to_string_lossy().into_owned();
+            texts.push((stem, fs::read_to_string(root.join(&source))?));
+        }
+    }
+    Ok(texts)
+}
+
+/// A function that the header has and the crate has not, or the other way round.
+fn not_in_both<'a>(header: &'a str, functions: &[c::Function<'a>]) -> Option<&'a str> {
+    let there = prototypes::declared(header);
+    let here: Vec<&str> = functions.iter().map(|one| one.name).collect();
+    let mut all = there.iter().chain(&here).copied();
+    all.find(|name| !there.contains(name) || !here.contains(name))
+}
+
 /// What a C compiler links, and what it compares the header with.
 fn for_c(root: &Path, tree: &Tree) -> io::Result<(String, String)> {
-    let mut exported = Vec::new();
-    for source in files_of(root, C_NAMES)? {
-        let stem = Path::new(&source).file_stem().unwrap_or_default();
-        let stem = stem.to_string_lossy().into_owned();
-        exported.push((stem, fs::read_to_string(root.join(&source))?));
-    }
+    let exported = texts(root, &[C_NAMES])?;
     let functions = exported
         .iter()
         .flat_map(|(module, text)| c::functions(module, text));
     let functions: Vec<c::Function> = functions.collect();
     let header = header(root)?;
-    let mut there = prototypes::declared(&header);
-    let mut here: Vec<&str> = functions.iter().map(|one| one.name).collect();
-    there.sort_unstable();
-    here.sort_unstable();
-    if there != here {
-        let other = there
-            .iter()
-            .chain(&here)
-            .find(|name| !there.contains(name) || !here.contains(name));
-        let name = other.unwrap_or(&"a function twice");
-        return Err(wrong(format!(
-            "rainbow.h and crate {C_NAMES} do not both have {name}"
-        )));
+    if let Some(name) = not_in_both(&header, &functions) {
+        let why = format!("rainbow.h and crate {C_NAMES} do not both have {name}");
+        return Err(wrong(why));
     }
-    let mut texts = Vec::new();
-    for one in tree.libraries().filter(|one| !is_kit(&one.name)) {
-        for source in files_of(root, &one.name)? {
-            texts.push(fs::read_to_string(root.join(source))?);
-        }
-    }
+    let libraries = tree.libraries().map(|one| one.name.as_str());
+    let libraries: Vec<&str> = libraries.filter(|name| !is_kit(name)).collect();
+    let texts = texts(root, &libraries)?;
     let mut structs: Vec<(&str, &str)> = Vec::new();
-    for text in &texts {
+    for (_, text) in &texts {
         let after = text.split("#[repr(C)]\npub struct ").skip(1);
         structs.extend(after.filter_map(|rest| Some((rest.split_once(' ')?.0, text.as_str()))));
     }
@@ -291,16 +294,17 @@ pub fn write(root: &Path, into: &Path) -> Result<same::Compared, String> {
     check(root, &files, into)
 }
 
-/// Compares a package that is there with crates/. What was written by hand has to be the same.
+/// Compares a package that is there with crates/, and with what would be written now.
 pub fn compare(root: &Path, into: &Path) -> Result<same::Compared, String> {
     let files = files(root).map_err(told)?;
     if let Some(other) = others(&files, into).map_err(told)?.first() {
         return Err(format!("{} is no file of the package", other.display()));
     }
-    for (name, made) in files.iter().filter(|(_, made)| made.source.is_none()) {
+    let compared = check(root, &files, into)?;
+    for (name, made) in &files {
         if fs::read_to_string(into.join(name)).map_err(told)? != made.text {
             return Err(format!("{} is not as it was written", name.display()));
         }
     }
-    check(root, &files, into)
+    Ok(compared)
 }

@@ -165,8 +165,8 @@ pub fn compare(source: &str, made: &str) -> Result<Compared, String> {
 fn from(source: &[Token], made: &[Token]) -> Result<Compared, (usize, String)> {
     let (mut i, mut j) = (0, 0);
     let mut compared = Compared::default();
-    // In the head of a function; how deep in the braces of a body.
-    let (mut head, mut depth) = (false, 0);
+    // In the head of a function, and whether it is public; how deep in the braces of a body.
+    let (mut head, mut public, mut depth) = (false, false, 0);
     while i < source.len() || j < made.len() {
         let (old, new) = (source.get(i), made.get(j));
         if old.map(|token| token.text) != new.map(|token| token.text) {
@@ -175,6 +175,9 @@ fn from(source: &[Token], made: &[Token]) -> Result<Compared, (usize, String)> {
                 0 => (left_out(&source[i..]), added(&made[j..], before)),
                 _ => (0, 0),
             };
+            if public && starts(&source[i..i + less], &["requires"]) {
+                return Err((i, "a public function has lost its requires".to_string()));
+            }
             match (less, more) {
                 (0, 0) => return Err((i, differs(old, new))),
                 (0, more) => j += more,
@@ -184,7 +187,10 @@ fn from(source: &[Token], made: &[Token]) -> Result<Compared, (usize, String)> {
         }
         compared.tokens += usize::from(depth > 0);
         match source[i].text {
-            "fn" => head = true,
+            "fn" => {
+                head = true;
+                public = j > 0 && made[j - 1].text == "pub";
+            }
             "{" if depth > 0 => depth += 1,
             "{" if head => {
                 (head, depth) = (false, 1);
@@ -273,6 +279,15 @@ pub extern \"C\" fn f(a: u8) -> u8
         }
         let longer = made() + "fn g() {}\n";
         assert!(compare(FILE, &longer).is_err());
+    }
+
+    #[test]
+    fn a_function_with_a_requires_is_not_public() {
+        let public = made().replacen("pub(crate) fn", "pub fn", 1);
+        let why = compare(FILE, &public).unwrap_err();
+        assert_eq!(why, "a public function has lost its requires");
+        let private = made().replacen("pub(crate) fn", "fn", 1);
+        assert!(compare(FILE, &private).is_err());
     }
 
     #[test]
