@@ -281,4 +281,4 @@ bench: library $(if $(KIT),kit-library)
 	done
 
 clean:
-	rm -rf target host/target
+	rm -rf target host/target examples/rust/Cargo.lock python/__pycache__
