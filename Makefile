@@ -1,5 +1,5 @@
-# make            prove every crate, build and run the programs, list a herd book's screen, and write what the tube shows
-#                 of another to target/tube.pgm; with cargo, also make programs
+# make            prove every crate, build and run the programs, list a herd book's screen, and write what the tube
+#                 shows of another to target/tube.pgm; with cargo, also make programs
 # make test       the gate
 #
 # What others use, with cargo:
@@ -27,7 +27,7 @@
 .PHONY: all test check docs counts expected scripts png compare mutants host bench emulated clean
 .PHONY: rust library programs install uninstall examples python
 .PHONY: model archive kit-library header-c header-c++ package-tests
-.PHONY: host-with host-load host-c host-memory host-more host-both
+.PHONY: host-with host-load host-c host-c++ host-fences host-valgrind host-more host-both
 
 CARGO ?= cargo
 HAS_CARGO := $(shell command -v $(CARGO))
@@ -47,7 +47,10 @@ LIBRARY ?= target/library
 LIBRARIES = target/library $(if $(KIT),target/library-kit)
 ARCHIVE = $(LIBRARY)/librainbow.a
 
+# RUN is a command put in front of each C program, for make emulated, where CROSS is a C compiler for x86-64.
 # Where the sanitizers or valgrind cannot be had, SANITIZE and VALGRIND may be empty.
+RUN ?=
+CROSS ?= $(if $(filter x86_64,$(MACHINE)),$(CC),x86_64-linux-gnu-gcc)
 SANITIZE ?= -fsanitize=address,undefined
 VALGRIND ?= valgrind -q --error-exitcode=1
 CALLS ?= 1000000
@@ -126,8 +129,10 @@ programs: rust
 
 # The package builds without a warning, and its documentation too; what it shows as an example holds.
 package-tests: rust
-	RUSTFLAGS='-D warnings' $(CARGO) build -q --release --manifest-path $(PACKAGE)/Cargo.toml --target-dir target/cargo/tests
-	RUSTFLAGS='-D warnings' $(CARGO) test -q --release --manifest-path $(PACKAGE)/Cargo.toml --target-dir target/cargo/tests
+	RUSTFLAGS='-D warnings' $(CARGO) build -q --release --manifest-path $(PACKAGE)/Cargo.toml \
+		--target-dir target/cargo/tests
+	RUSTFLAGS='-D warnings' $(CARGO) test -q --release --manifest-path $(PACKAGE)/Cargo.toml \
+		--target-dir target/cargo/tests
 	RUSTDOCFLAGS='-D warnings' $(CARGO) doc -q --no-deps --lib --manifest-path $(PACKAGE)/Cargo.toml \
 		--target-dir target/cargo/tests
 
@@ -197,7 +202,7 @@ host: library programs $(if $(KIT),kit-library)
 	$(if $(KIT),$(MAKE) host-both)
 	CC='$(CC)' PYTHON='$(PYTHON)' tools/installed
 
-host-with: host-load host-c host-memory
+host-with: host-load host-c host-c++ host-fences host-valgrind
 
 # A million calls beside the model; and the tester has to find each fault that is put into it, in a script of few calls.
 host-load: model
@@ -208,7 +213,8 @@ host-load: model
 		test $$? -eq 1 || { echo "fault $$fault is not found"; exit 1; }; \
 		test $$(grep -c '^  ' target/host/fault.txt) -le 10 || { echo "fault $$fault is not shrunk"; exit 1; }; \
 	done
-	@$(LOAD) --fault $(BOTH_FAULT) --against $(LIBRARY)/librainbow.so $(LIBRARY)/librainbow.so > target/host/fault.txt; \
+	@$(LOAD) --fault $(BOTH_FAULT) --against $(LIBRARY)/librainbow.so $(LIBRARY)/librainbow.so \
+		> target/host/fault.txt; \
 		test $$? -eq 1 || { echo 'fault $(BOTH_FAULT) is not found'; exit 1; }
 	@echo 'the faults are found: $(FAULTS) $(BOTH_FAULT)'
 
@@ -226,32 +232,37 @@ header-c header-c++: $(if $(HAS_CARGO),rust)
 		$(if $(filter header-c,$@),host/serve.c $(if $(HAS_CARGO),$(PACKAGE)/prototypes.c))
 
 # The examples run, as C and as C++.
-host-c: header-c header-c++
+host-c: header-c
 	$(C) host/example/example.c $(ARCHIVE) -o target/host/example
-	target/host/example > target/host/printed.txt
+	$(RUN) target/host/example > target/host/printed.txt
 	diff host/example/expected.txt target/host/printed.txt
+	$(C) host/example/null.c $(ARCHIVE) -o target/host/null
+	$(RUN) target/host/null
+	$(C) host/example/computer.c $(ARCHIVE) -o target/host/computer
+	$(RUN) target/host/computer > target/host/printed.txt
+	diff host/example/refusals.txt target/host/printed.txt
+
+host-c++: header-c++
 	$(CPP) host/example/example.c -x none $(ARCHIVE) -o target/host/example++
 	target/host/example++ > target/host/printed.txt
 	diff host/example/expected.txt target/host/printed.txt
-	$(C) host/example/null.c $(ARCHIVE) -o target/host/null
-	target/host/null
-	$(C) host/example/computer.c $(ARCHIVE) -o target/host/computer
-	target/host/computer > target/host/printed.txt
-	diff host/example/refusals.txt target/host/printed.txt
 	$(CPP) host/example/computer.c -x none $(ARCHIVE) -o target/host/computer++
 	target/host/computer++ > target/host/printed.txt
 	diff host/example/refusals.txt target/host/printed.txt
 
-# Every access stays inside of the buffers.
-host-memory: model
+# No access goes outside of the buffers: fences on either side of each, and the sanitizers for what C itself does.
+host-fences:
 	@mkdir -p target/host
-	$(C) $(SANITIZE) host/example/example.c $(ARCHIVE) -o target/host/example-watched
-	target/host/example-watched > target/host/printed.txt
-	diff host/example/expected.txt target/host/printed.txt
 	$(C) $(SANITIZE) host/example/asan.c $(ARCHIVE) -o target/host/asan
-	target/host/asan
+	$(RUN) target/host/asan
+	$(C) $(SANITIZE) host/example/example.c $(ARCHIVE) -o target/host/example-watched
+	$(RUN) target/host/example-watched > target/host/printed.txt
+	diff host/example/expected.txt target/host/printed.txt
 	$(C) $(SANITIZE) host/example/computer.c $(ARCHIVE) -o target/host/computer-watched
-	target/host/computer-watched > target/host/printed.txt
+	$(RUN) target/host/computer-watched > target/host/printed.txt
+	diff host/example/refusals.txt target/host/printed.txt
+
+host-valgrind: model
 	$(VALGRIND) $(LOAD) --calls 20000 $(LIBRARY)/librainbow.so
 
 # What rustc's library takes beside what the header asks of a caller.
@@ -270,6 +281,9 @@ emulated: model archive library programs
 	rt check rows tube
 	$(MODEL)/compare_rows 'tools/run --kit rows' 200
 	$(MODEL)/compare_tube 'tools/run --kit tube' 50
+	@if command -v $(CROSS) >/dev/null; then \
+		$(MAKE) host-c host-fences CC=$(CROSS) LIBRARY=target/staticlib RUN='tools/kit run' SANITIZE=; \
+	else echo 'no $(CROSS): the C programs are left out'; fi
 
 bench: library $(if $(KIT),kit-library)
 	@mkdir -p target/host

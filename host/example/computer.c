@@ -26,9 +26,11 @@ static void expect(bool holds, const char *what)
 static uint32_t marks_since(const uint8_t *before)
 {
     uint32_t marks = 0;
-    for (unsigned row = 0; row < RAINBOW_ROWS; row++)
-        if (memcmp(before + row * RAINBOW_RECORD_BYTES, c.picture + row * RAINBOW_RECORD_BYTES, RAINBOW_RECORD_BYTES) != 0)
+    for (unsigned row = 0; row < RAINBOW_ROWS; row++) {
+        size_t at = row * RAINBOW_RECORD_BYTES;
+        if (memcmp(before + at, c.picture + at, RAINBOW_RECORD_BYTES) != 0)
             marks |= (uint32_t)1 << row;
+    }
     return marks;
 }
 
@@ -143,7 +145,8 @@ static void rows(void)
     expect(rainbow_computer_row(&d, 1).cells == 66, "row 1 at 132 columns");
     expect(rainbow_computer_glyph(&d, 3) == d.glyphs + 48, "a glyph's bytes");
     d.picture[23 * RAINBOW_RECORD_BYTES + RAINBOW_COUNT_AT] = 253; /* by hand */
-    expect(rainbow_computer_row(&d, 23).cells == 132 && rainbow_computer_text(&d, 23, text) == 132, "133 cells or more");
+    expect(rainbow_computer_row(&d, 23).cells == 132, "133 cells or more");
+    expect(rainbow_computer_text(&d, 23, text) == 132, "the text of 133 cells or more");
 }
 
 int main(void)
