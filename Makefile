@@ -221,8 +221,8 @@ host-load: model
 host-both: model
 	$(LOAD) --calls $(CALLS) --against target/library/librainbow.so target/library-kit/librainbow.so
 
-# Each header by itself, twice, and the examples, none of them linked; with cargo also rainbow.h beside the functions and
-# structs of crates/.
+# Each header by itself, twice, and the examples, none of them linked; with cargo also rainbow.h beside the functions
+# and structs of crates/.
 header-c header-c++: $(if $(HAS_CARGO),rust)
 	@mkdir -p target/host
 	@printf '#include "rainbow.h"\n#include "rainbow.h"\n' > target/host/$@.c
