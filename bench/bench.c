@@ -32,7 +32,8 @@ static uint8_t picture[RAINBOW_PICTURE_BYTES], fresh[RAINBOW_PICTURE_BYTES];
 static uint8_t table[RAINBOW_GLYPH_BYTES], line[RAINBOW_LINE_BYTES];
 static volatile uint32_t answers; /* what the calls answered, so that none is left out and both sides can be compared */
 
-/* A full screen: 24 rows of as many cells as their kind has, one after the other, and row 24 like them. */
+/* A full screen: 24 rows of as many cells as their kind has, one after the other, and row 24 like them. The links of
+ * rows 12 and 23 are wild. */
 static unsigned columns, start_of[RAINBOW_ROWS + 1];
 
 static void lay(unsigned wanted, uint8_t kind) {
@@ -54,7 +55,7 @@ static void lay(unsigned wanted, uint8_t kind) {
         }
         screen[place % 4096] = 0xFF;
         screen[(place + 1) % 4096] = (uint8_t)(place + 3);
-        screen[(place + 2) % 4096] = (uint8_t)((place + 3) >> 8);
+        screen[(place + 2) % 4096] = (uint8_t)((place + 3) >> 8 | (row == 12 || row == 23 ? 0x50 : 0));
         attribute[(place + 1) % 4096] = kind;
         place += 3;
     }
@@ -64,7 +65,9 @@ static void lay(unsigned wanted, uint8_t kind) {
 }
 
 static void draw(const side *with) {
-    answers += with->draw(machine, screen, sizeof screen, attribute, sizeof attribute, picture, sizeof picture).reads;
+    rainbow_drawn drawn =
+        with->draw(machine, screen, sizeof screen, attribute, sizeof attribute, picture, sizeof picture);
+    answers = answers * 31 + (drawn.reads * 32u + drawn.wild_row) * 2u + drawn.wild;
 }
 
 /* Stores two bytes in turn, so that each store changes memory. */

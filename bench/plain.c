@@ -5,7 +5,7 @@
 enum { PLACES = 4096, PAIRS = 132 };
 
 typedef struct {
-    unsigned start;
+    unsigned link; /* as it stands in memory: a place over 4095 is wild */
     unsigned kind;
     bool dark;
 } head;
@@ -14,21 +14,21 @@ static unsigned capacity_of(unsigned columns, unsigned kind) { return (kind & 3)
 
 static head link_after(const uint8_t *screen, const uint8_t *attribute, unsigned ff) {
     unsigned low = (ff + 1) % PLACES, high = (ff + 2) % PLACES;
-    head next = {screen[low] | (screen[high] & 15u) << 8, attribute[low] & 7u, false};
+    head next = {screen[low] | (unsigned)screen[high] << 8, attribute[low] & 7u, false};
     return next;
 }
 
 /* Draws one row, and says how many bytes of screen memory it read. */
 static unsigned draw_row(unsigned columns, const uint8_t *screen, const uint8_t *attribute, head *at, uint8_t *record) {
     uint8_t *pair = record + RAINBOW_PAIRS_AT, *end = pair + 2 * PAIRS;
-    unsigned reads = 0, cells = 0;
-    record[0] = (uint8_t)(at->start >> 8);
-    record[1] = (uint8_t)at->start;
+    unsigned reads = 0, cells = 0, start = at->link % PLACES;
+    record[0] = (uint8_t)(start >> 8);
+    record[1] = (uint8_t)start;
     record[RAINBOW_KIND_AT] = (uint8_t)at->kind;
     if (at->dark) {
         record[RAINBOW_COUNT_AT] = RAINBOW_DARK;
     } else {
-        unsigned capacity = capacity_of(columns, at->kind), place = at->start;
+        unsigned capacity = capacity_of(columns, at->kind), place = start;
         while (cells < capacity && screen[place] != 0xFF) {
             *pair++ = screen[place];
             *pair++ = attribute[place] & 15;
@@ -41,7 +41,7 @@ static unsigned draw_row(unsigned columns, const uint8_t *screen, const uint8_t 
             reads = cells + 3;
         } else {
             record[RAINBOW_COUNT_AT] = RAINBOW_TORN;
-            at->start = 0, at->kind = 3, at->dark = true;
+            at->link = 0, at->kind = 3, at->dark = true;
             reads = capacity + 1;
         }
     }
@@ -55,14 +55,19 @@ static unsigned draw_row(unsigned columns, const uint8_t *screen, const uint8_t 
 rainbow_drawn plain_draw(rainbow_machine machine, const uint8_t *screen, size_t screen_length,
                          const uint8_t *attribute, size_t attribute_length, uint8_t *picture,
                          size_t picture_length) {
-    rainbow_drawn drawn = {RAINBOW_REFUSED_LENGTH, 0};
+    rainbow_drawn drawn = {RAINBOW_REFUSED_LENGTH, 0, false, 0};
     if (screen_length != RAINBOW_SCREEN_BYTES || attribute_length != RAINBOW_ATTRIBUTE_BYTES ||
         picture_length != RAINBOW_PICTURE_BYTES)
         return drawn;
     head at = {0, 3, false};
     unsigned columns = machine.columns132 ? 132 : 80, reads = 0;
-    for (int row = 0; row < RAINBOW_ROWS; row++)
+    for (int row = 0; row < RAINBOW_ROWS; row++) {
         reads += draw_row(columns, screen, attribute, &at, picture + row * RAINBOW_RECORD_BYTES);
+        if (at.link >= PLACES && !drawn.wild) {
+            drawn.wild = true;
+            drawn.wild_row = (uint8_t)row;
+        }
+    }
     drawn.refusal = RAINBOW_ACCEPTED;
     drawn.reads = (uint16_t)reads;
     return drawn;
@@ -87,7 +92,7 @@ uint8_t plain_store_8088(uint8_t *shared, size_t shared_length, uint8_t *screen,
 /* Passes one row, and says whether it reads a place of one of the two memories. */
 static bool pass_row(unsigned columns, const uint8_t *screen, const uint8_t *attribute, head *at, bool beside,
                      unsigned place) {
-    unsigned capacity = capacity_of(columns, at->kind), start = at->start, cells = 0;
+    unsigned capacity = capacity_of(columns, at->kind), start = at->link, cells = 0;
     unsigned from = (place - start) % PLACES;
     while (cells < capacity && screen[(start + cells) % PLACES] != 0xFF)
         cells++;

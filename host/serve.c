@@ -4,8 +4,8 @@
  * be none. host/src/rainbow/served.rs has the other end.
  *
  * A call: the function's number, the machine, two numbers, how many buffers, and for each whether there is one, its
- * length and its bytes. An answer: the refusal, two numbers, the machine, and the bytes of each buffer. Numbers have
- * eight bytes, the lowest first. */
+ * length and its bytes. An answer: the refusal, two numbers, the machine, what a drawing says of a wild link, which is
+ * two bytes, and the bytes of each buffer. Numbers have eight bytes, the lowest first. */
 #include "rainbow.h"
 
 long read(int file, void *bytes, size_t length);
@@ -95,11 +95,12 @@ typedef struct {
     uint8_t refusal;
     uint64_t value, length;
     rainbow_machine machine;
+    rainbow_drawn drawn;
 } answer;
 
 static answer read_byte(rainbow_byte_read read)
 {
-    answer a = {read.refusal, read.byte, 0, {0}};
+    answer a = {read.refusal, read.byte, 0, {0}, {0}};
     return a;
 }
 
@@ -108,7 +109,7 @@ static answer call(uint8_t function, rainbow_machine machine, uint64_t m, uint64
 {
     uint8_t **b = lent;
     size_t *l = length;
-    answer a = {0, 0, 0, {0}};
+    answer a = {0, 0, 0, {0}, {0}};
     switch (function) {
     case 0: a.value = rainbow_version(); break;
     case 1: a.machine = rainbow_power_up(); break;
@@ -130,12 +131,11 @@ static answer call(uint8_t function, rainbow_machine machine, uint64_t m, uint64
     case 12: a.refusal = rainbow_store_z80(b[0], l[0], b[1], l[1], (uint16_t)m, (uint8_t)n); break;
     case 13: return read_byte(rainbow_read_shadow(b[0], l[0], m));
     case 14: a.refusal = rainbow_write_shadow(b[0], l[0], m, (uint8_t)n); break;
-    case 15: {
-        rainbow_drawn drawn = rainbow_draw(machine, b[0], l[0], b[1], l[1], b[2], l[2]);
-        a.refusal = drawn.refusal;
-        a.value = drawn.reads;
+    case 15:
+        a.drawn = rainbow_draw(machine, b[0], l[0], b[1], l[1], b[2], l[2]);
+        a.refusal = a.drawn.refusal;
+        a.value = a.drawn.reads;
         break;
-    }
     case 16: {
         rainbow_stored stored = rainbow_store_with_picture(machine, b[0], l[0], b[1], l[1], b[2], l[2], b[3], l[3],
                                                            (uint32_t)m, (uint8_t)n);
@@ -170,7 +170,8 @@ static bool serve(void)
         if (!take_buffer(buffer))
             return false;
     answer a = call(function, machine, m, n);
-    if (!give(&a.refusal, 1) || !give_number(a.value) || !give_number(a.length) || !give(&a.machine, sizeof a.machine))
+    if (!give(&a.refusal, 1) || !give_number(a.value) || !give_number(a.length) ||
+        !give(&a.machine, sizeof a.machine) || !give(&a.drawn.wild, 1) || !give(&a.drawn.wild_row, 1))
         return false;
     for (int buffer = 0; buffer < buffers; buffer++)
         if (!is_guarded(buffer) || !give(memory[buffer] + GUARD, length[buffer]))

@@ -13,8 +13,8 @@
  * The caller keeps the buffers and lends them for the length of a call; the library keeps nothing, and calls on
  * different buffers may be made from different threads. The machine goes in by value and comes back.
  *
- * A refused call says why by its number, the lowest one that applies; every other number of its answer is 0, and
- * no byte lent to it and no field of the machine changes.
+ * A refused call says why by its number, the lowest one that applies; every other number of its answer is 0, no row
+ * is named, and no byte lent to it and no field of the machine changes.
  */
 #ifndef RAINBOW_H
 #define RAINBOW_H
@@ -29,7 +29,7 @@ extern "C" {
 
 /* Raised by every new call and every change of a number, a struct or a rule of this file. rainbow_version() is the
  * library's own. */
-#define RAINBOW_VERSION 2
+#define RAINBOW_VERSION 3
 
 /* The length of each buffer, in bytes. */
 #define RAINBOW_SHARED_BYTES 65536
@@ -90,10 +90,12 @@ typedef struct rainbow_written {
     rainbow_machine machine;
 } rainbow_written;
 
-/* The answer of a drawing: how many bytes of screen memory the walk read. */
+/* The answer of a drawing: how many bytes of screen memory the walk read, and the first row whose link is wild. */
 typedef struct rainbow_drawn {
     uint8_t refusal;
     uint16_t reads;
+    bool wild;        /* some row's link is wild */
+    uint8_t wild_row; /* the first such row, 0 if there is none */
 } rainbow_drawn;
 
 /* The answer of a store with a picture lent: bit r of marks is set exactly when record r changed. */
@@ -120,7 +122,7 @@ RAINBOW_SIZE(bool, 1);
 RAINBOW_SIZE(rainbow_machine, 9);
 RAINBOW_SIZE(rainbow_byte_read, 2);
 RAINBOW_SIZE(rainbow_written, 10);
-RAINBOW_SIZE(rainbow_drawn, 4);
+RAINBOW_SIZE(rainbow_drawn, 6);
 RAINBOW_SIZE(rainbow_stored, 8);
 RAINBOW_SIZE(rainbow_part_place, 24);
 
@@ -187,6 +189,8 @@ uint8_t rainbow_write_shadow(uint8_t *shadow, size_t shadow_length, size_t place
  * record of each. A row runs to the first FF, the two bytes after which are the next row's start, low byte first;
  * the attribute byte beside the first of them gives that row's kind. A row with no FF among its first capacity + 1
  * bytes is torn, and all rows after it are dark.
+ * The top four bits of a link's high byte play no part in where it leads; a link with one of them set is wild. The
+ * answer names the first row whose link is wild; the last row's link counts too. A torn or dark row has no link.
  * Refused: 1. */
 rainbow_drawn rainbow_draw(rainbow_machine machine, const uint8_t *screen, size_t screen_length,
                            const uint8_t *attribute, size_t attribute_length, uint8_t *picture,

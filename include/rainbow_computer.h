@@ -62,14 +62,15 @@ static inline const char *rainbow_refusal_text(uint8_t refusal)
     }
 }
 
-/* Draws the picture afresh. */
+/* Draws the picture afresh. The answer has how many bytes were read, and the first row whose link is wild. */
 static inline rainbow_drawn rainbow_computer_draw(rainbow_computer *c)
 {
     return rainbow_draw(c->machine, c->screen, sizeof c->screen, c->attribute, sizeof c->attribute, c->picture,
                         sizeof c->picture);
 }
 
-/* The machine as at power-up, and the picture of the memories as they are: no memory changes. */
+/* The machine as at power-up, and the picture of the memories as they are: no memory changes. The answer is that of
+ * rainbow_computer_draw. */
 static inline rainbow_drawn rainbow_computer_power_up(rainbow_computer *c)
 {
     c->machine = rainbow_power_up();

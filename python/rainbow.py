@@ -14,10 +14,10 @@ import ctypes.util
 import operator
 import os
 from ctypes import c_bool, c_size_t, c_uint8, c_uint16, c_uint32
-from typing import NamedTuple
+from typing import NamedTuple, Optional
 
 # The numbers of include/rainbow.h, by the same names: first its version.
-VERSION = 2
+VERSION = 3
 SHARED_BYTES, PRIVATE_BYTES = 65536, 2048
 SCREEN_BYTES, ATTRIBUTE_BYTES, GLYPH_BYTES = 4096, 4096, 4096
 NVM_BYTES, SHADOW_BYTES = 256, 256
@@ -50,6 +50,18 @@ class Refused(Exception):
 
     def __str__(self):
         return f"{self.number}, {self.text}"
+
+
+class Drawing(NamedTuple):
+    """What a drawing answers."""
+
+    reads: int  # how many bytes of screen memory were read
+    wild_row: Optional[int]  # the first row whose link is wild, or None
+
+    @property
+    def wild(self):
+        """Whether a row's link has one of its top four bits set. A torn or dark row has no link."""
+        return self.wild_row is not None
 
 
 class Row(NamedTuple):
@@ -95,7 +107,7 @@ class Written(ctypes.Structure):
 
 class Drawn(ctypes.Structure):
     """The answer of a drawing."""
-    _fields_ = [("refusal", c_uint8), ("reads", c_uint16)]
+    _fields_ = [("refusal", c_uint8), ("reads", c_uint16), ("wild", c_bool), ("wild_row", c_uint8)]
 
 
 class Stored(ctypes.Structure):
@@ -196,9 +208,11 @@ class Computer(ctypes.Structure):
         return self.draw()
 
     def draw(self):
-        """Draws the picture afresh. The answer is how many bytes of screen memory were read."""
+        """Draws the picture afresh. The answer is a Drawing: how many bytes of screen memory were
+        read, and the first row whose link is wild."""
         memories = self.screen, self.attribute, self.picture
-        return _call("rainbow_draw", self.machine, *memories).reads
+        drawn = _call("rainbow_draw", self.machine, *memories)
+        return Drawing(drawn.reads, drawn.wild_row if drawn.wild else None)
 
     def load(self, screen, attribute):
         """Copies in two memories of 4,096 bytes each. Draws, and answers as draw() does.
@@ -315,7 +329,7 @@ class Computer(ctypes.Structure):
 # The sizes in bytes that the library was made for.
 SIZES = {"size_t": (c_size_t, 8), "bool": (c_bool, 1), "rainbow_machine": (Machine, 9),
          "rainbow_byte_read": (ByteRead, 2), "rainbow_written": (Written, 10),
-         "rainbow_drawn": (Drawn, 4), "rainbow_stored": (Stored, 8),
+         "rainbow_drawn": (Drawn, 6), "rainbow_stored": (Stored, 8),
          "rainbow_part_place": (PartPlace, 24), "rainbow_computer": (Computer, 88013)}
 
 
@@ -334,7 +348,7 @@ def places():
         return
     root = os.path.dirname(os.path.dirname(os.path.realpath(__file__)))
     yield os.path.join(root, "target", "library", "librainbow.so")
-    yield "librainbow.so.2"
+    yield f"librainbow.so.{VERSION}"
     yield "librainbow.so"
     found = ctypes.util.find_library("rainbow")
     if found:

@@ -1,6 +1,6 @@
 """Tests of rainbow.py and rows.py: python3 -m unittest discover -s python
 
-The cases P1 to P13 are those of document 01.
+The cases P1 to P13 are those of document 01; wild links are those of document 02, ticket 1.
 """
 import copy
 import ctypes
@@ -17,7 +17,7 @@ import unittest
 from unittest import mock
 
 import rainbow
-from rainbow import Computer, Refused, Row
+from rainbow import Computer, Drawing, Refused, Row
 
 HERE = os.path.dirname(os.path.abspath(__file__))
 ROOT = os.path.dirname(HERE)
@@ -112,13 +112,13 @@ class Worked(Case):
     """The worked cases of document 01."""
 
     def test_p1_all_ff(self):
-        self.assertEqual(self.computer.load(b"\xff" * 4096, bytes(4096)), 72)
+        self.assertEqual(self.computer.load(b"\xff" * 4096, bytes(4096)), Drawing(72, 0))
         self.assertEqual(self.computer.row(0), Row(0, 3, 0, 0))
         for row in range(1, 24):
             self.assertEqual(self.computer.row(row), Row(4095, 0, 0, 0))
 
     def test_p2_all_zero(self):
-        self.assertEqual(self.computer.draw(), 81)
+        self.assertEqual(self.computer.draw(), Drawing(81, None))
         self.assertEqual(self.computer.row(0), Row(0, 3, 255, 80))
         self.assertTrue(self.computer.row(0).torn)
         self.assertFalse(self.computer.row(0).dark)
@@ -128,8 +128,9 @@ class Worked(Case):
             self.assertFalse(self.computer.row(row).torn)
 
     def test_p3_p4_link(self):
-        for high in (0x01, 0xF1):
-            self.computer.load(bytes([0xFF, 0x50, high]) + bytes(4093), bytes(4096))
+        for high, wild_row in ((0x01, None), (0xF1, 0)):
+            drawing = self.computer.load(bytes([0xFF, 0x50, high]) + bytes(4093), bytes(4096))
+            self.assertEqual(drawing, Drawing(3 + 41, wild_row))
             self.assertEqual(self.computer.row(1).start, 336)
 
     def test_p5_normal(self):
@@ -220,6 +221,67 @@ class Worked(Case):
         self.assertEqual(self.computer.row(2), DARK_ROW)
 
 
+class Wild(Case):
+    """The first row whose link has any of its top four bits set."""
+
+    def links(self, high):
+        """Draws rows of no cells, eight places apart. The links of some have other high bytes."""
+        screen = bytearray(b"A" * 4096)
+        for row in range(24):
+            screen[8 * row:8 * row + 3] = 0xFF, 8 * row + 8, high.get(row, 0)
+        return self.computer.load(screen, b"\x03" * 4096)
+
+    def test_each_bit_and_row(self):
+        for high in (0x10, 0x20, 0x40, 0x80, 0xF0):
+            for row in (0, 1, 12, 22):
+                self.assertEqual(self.links({row: high, 23: 0x10}), Drawing(72, row))
+            self.assertEqual(self.links({23: high}), Drawing(72, 23))
+
+    def test_none(self):
+        drawing = self.links({})
+        self.assertEqual((drawing, drawing.wild, drawing.wild_row), ((72, None), False, None))
+        for low, high in ((0x00, 0x08), (0x00, 0x0F), (0xFF, 0x00), (0xF0, 0x07)):
+            drawing = self.computer.load(bytes([0xFF, low, high]) + bytes(4093), b"\x03" * 4096)
+            self.assertEqual(drawing, Drawing(3 + 81, None))
+            self.assertEqual(self.computer.row(1).start, 256 * high + low)
+
+    def test_first(self):
+        drawing = self.links({5: 0x80, 6: 0x10, 23: 0xF0})
+        self.assertEqual((drawing.reads, drawing.wild, drawing.wild_row), (72, True, 5))
+        self.assertEqual(self.computer.power_up(), drawing)
+        self.assertEqual(self.computer.store(SCREEN + 8 * 5 + 2, 0x00), 0)
+        self.assertEqual(self.computer.draw(), Drawing(72, 6))
+
+    def test_loop(self):
+        screen = bytearray(4096)
+        screen[0:3], screen[256:259], screen[512:515] = b"\xff\0\1", b"\xff\0\2", b"\xff\0\x91"
+        self.assertEqual(self.computer.load(screen, b"\x03" * 4096), Drawing(72, 2))
+
+    def test_torn_and_dark(self):
+        for end, wild_row in ((80, 0), (81, None)):
+            screen = bytearray(b"\xf1" * 4096)
+            screen[end] = 0xFF
+            self.assertEqual(self.computer.load(screen, b"\x03" * 4096).wild_row, wild_row)
+        self.computer.write_port(0x04, 0x10)
+        self.assertEqual(self.computer.draw(), Drawing(84 + 133, 0))
+        screen[0:3] = 0xFF, 0x00, 0x02  # row 1 is torn, and the others are dark
+        self.assertEqual(self.computer.load(screen, b"\x03" * 4096), Drawing(3 + 133, None))
+
+    def test_past_the_last_place(self):
+        for end, high in ((4093, 4095), (4094, 0), (4095, 1)):
+            screen = bytearray(b"\1" * 4096)
+            screen[2:5] = 0xFF, 0xF0, 0x0F
+            screen[end] = 0xFF
+            for byte, wild_row in ((0x01, None), (0x41, 1)):
+                screen[high] = byte
+                drawing = self.computer.load(screen, b"\x03" * 4096)
+                self.assertEqual(drawing, Drawing(5 + end - 4080 + 3 + 81, wild_row))
+
+    def test_refused(self):
+        self.links({3: 0x10})
+        self.refused(1, self.computer.load, b"\xff" * 4096, bytes(4095))
+
+
 class Calls(Case):
     """Each method beside the rule of its call."""
 
@@ -238,7 +300,7 @@ class Calls(Case):
         drawn = bytes(self.computer)
         self.computer.write_port(0x04, 0x10)
         self.computer.picture[0] = 9
-        self.assertEqual(self.computer.power_up(), 72)
+        self.assertEqual(self.computer.power_up(), Drawing(72, 0))
         self.assertEqual(bytes(self.computer), drawn)
 
     def settings(self):
@@ -336,7 +398,8 @@ class Calls(Case):
     def test_load(self):
         screen, attribute = bytes([1, 0xFF] * 2048), bytearray([3, 5] * 2048)
         ctypes_array = (ctypes.c_uint8 * 4096).from_buffer_copy(screen)
-        self.assertEqual(self.computer.load(ctypes_array, memoryview(attribute)), 1 + 3 * 24)
+        drawing = self.computer.load(ctypes_array, memoryview(attribute))
+        self.assertEqual(drawing, Drawing(1 + 3 * 24, 0))
         self.assertEqual(bytes(self.computer.screen), screen)
         self.assertEqual(bytes(self.computer.attribute), attribute)
         self.computer.load(self.computer.attribute, self.computer.screen)
@@ -435,8 +498,8 @@ class Headers(unittest.TestCase):
             self.assertIs(rainbow.SIZES[name][0], C_TYPES[name])
 
     def test_other_size(self):
-        with self.assertRaisesRegex(ImportError, "^rainbow_drawn has 4 bytes .*, not 3$"):
-            rainbow.check_sizes({"rainbow_drawn": (rainbow.Drawn, 3)})
+        with self.assertRaisesRegex(ImportError, "^rainbow_drawn has 6 bytes .*, not 4$"):
+            rainbow.check_sizes({"rainbow_drawn": (rainbow.Drawn, 4)})
 
     def test_fields(self):
         wanted = {**structs(self.calls), **structs(self.whole)}
@@ -506,6 +569,7 @@ class Lent(Case):
 
     def test_refused(self):
         self.computer.tick()
+        self.computer.screen[:] = b"\xff" * 4096  # every link is wild
         functions = 0
         for name, (_, given) in declarations(header("rainbow.h")).items():
             lengths = [at for at, (_, part) in enumerate(given) if part.endswith("_length")]
@@ -541,16 +605,17 @@ class Runs(Case):
     def setUp(self):
         super().setUp()
         self.random = random.Random(1)
+        self.named = set()  # the rows that drawings named
         fill = self.random.choices(range(256), k=65536)
         self.computer.shared[:] = fill
         self.computer.nvm[:] = fill[:256]
         self.computer.load_glyphs(bytes(fill[:4096]))
-        screen = [0xFF if self.random.random() < 0.05 else code for code in fill[:4096]]
+        screen = [0xFF if self.random.random() < 0.05 else code % 16 for code in fill[:4096]]
         self.computer.load(bytes(screen), bytes(fill[4096:8192]))
 
     def byte(self):
-        """Any byte, but FF often."""
-        return 0xFF if self.random.random() < 0.2 else self.random.randrange(256)
+        """Any byte, but often FF or one that makes no link wild."""
+        return self.random.choice((0xFF, self.random.randrange(16), self.random.randrange(256)))
 
     def in_a_row(self):
         """An address of screen or attribute memory that a row is likely to read."""
@@ -564,7 +629,7 @@ class Runs(Case):
         computer, below, byte = self.computer, self.random.randrange, self.byte()
         kind = below(10)
         if kind < 6:
-            address = (below(0x10000) if kind == 0 else SCREEN - 8 + below(0x2010) if kind == 1
+            address = (below(0x10000) if kind == 0 else SCREEN - 32 + below(0x2040) if kind == 1
                        else self.in_a_row())
             return "store", computer.store(address, byte), (computer.read, address, byte)
         if kind == 6:
@@ -582,12 +647,25 @@ class Runs(Case):
         computer.scan_line(below(26), below(12))
         return "scan_line", 0, None
 
+    def first_wild(self):
+        """The first row whose link is wild, by the kept picture and the screen."""
+        for number in range(24):
+            row = self.computer.row(number)
+            if row.torn or row.dark:
+                return None
+            if self.computer.screen[(row.start + row.count + 2) % 4096] >= 0x10:
+                return number
+        return None
+
     def drawn_afresh(self):
-        """The picture as it is drawn into another buffer."""
+        """The picture as it is drawn into another buffer, by a drawing that names the right row."""
         computer, picture = self.computer, (ctypes.c_uint8 * rainbow.PICTURE_BYTES)()
         drawn = rainbow.library.rainbow_draw(computer.machine, computer.screen, 4096,
                                              computer.attribute, 4096, picture, len(picture))
         self.assertEqual(drawn.refusal, 0)
+        wild_row = self.first_wild()
+        self.named.add(wild_row)
+        self.assertEqual((drawn.wild, drawn.wild_row), (wild_row is not None, wild_row or 0))
         return bytes(picture)
 
     def changed_rows(self, before):
@@ -622,6 +700,7 @@ class Runs(Case):
                             ("write_shadow", 500), ("scan_line", 500), ("marks", 500),
                             ("columns", 100), (2, 5), (3, 100), (4, 100), (5, 100), (6, 1)):
             self.assertGreaterEqual(seen.get(name, 0), least, name)
+        self.assertLessEqual({None, 0, 1, 2, 3, 4}, self.named)
 
     @staticmethod
     def count(seen, name, holds=True):
@@ -672,6 +751,13 @@ class Lister(unittest.TestCase):
             with open(os.path.join(folder, "dump"), "wb") as file:
                 file.write(dump)
             self.assertEqual(self.run_rows("dump", "--text", folder=folder), (0, wanted, b""))
+
+    def test_wild(self):
+        for high, told in ((0x01, b""), (0x91, b"rows.py: the link of row 0 is wild\n")):
+            dump = bytes([0xFF, 0x50, high]).ljust(8192, b"\0")
+            wanted = b"columns 80 reads 44\n0 0000 3 0\n1 0150 0 torn\n"
+            self.assertEqual(self.run_rows(given=dump), (0, wanted, told))
+            self.assertEqual(self.run_rows(given=dump[:-1]), (0, b"refused 1\n", b""))
 
     def test_bad_arguments(self):
         for arguments in (["a", "b"], ["--txt"], ["-h"], ["--text", "a", "b"]):
@@ -728,9 +814,9 @@ class Finding(unittest.TestCase):
         with tempfile.TemporaryDirectory() as folder:
             os.mkdir(os.path.join(folder, "python"))
             shutil.copy(os.path.join(HERE, "rainbow.py"), os.path.join(folder, "python"))
-            shutil.copy(file, os.path.join(folder, "librainbow.so.2"))
+            shutil.copy(file, os.path.join(folder, "librainbow.so.3"))
             told = self.imported(os.path.join(folder, "python"), LD_LIBRARY_PATH=folder)
-            self.assertEqual(told, "librainbow.so.2\n")
+            self.assertEqual(told, "librainbow.so.3\n")
 
     def library_file(self):
         """The file of the library that is being tested."""
@@ -752,7 +838,7 @@ class Finding(unittest.TestCase):
 
     def test_order(self):
         built = os.path.join(os.path.realpath(ROOT), "target", "library", "librainbow.so")
-        places = [built, "librainbow.so.2", "librainbow.so"]
+        places = [built, "librainbow.so.3", "librainbow.so"]
         self.assertEqual(self.tried(None), places)
         self.assertEqual(self.tried("librainbow.so.9"), places + ["librainbow.so.9"])
         self.assertEqual(self.tried("librainbow.so.9", RAINBOW_LIBRARY="/a/b"), ["/a/b"])
@@ -760,12 +846,12 @@ class Finding(unittest.TestCase):
 
     def test_version(self):
         self.assertEqual(rainbow.library.rainbow_version(), rainbow.VERSION)
-        other = types.SimpleNamespace(rainbow_version=lambda: 3)
-        with self.assertRaisesRegex(ImportError, "version 3, .* for 2$"):
+        other = types.SimpleNamespace(rainbow_version=lambda: 2)
+        with self.assertRaisesRegex(ImportError, "version 2, .* for 3$"):
             rainbow.set_up(other)
 
     def test_function_missing(self):
-        other = types.SimpleNamespace(rainbow_version=lambda: 2)
+        other = types.SimpleNamespace(rainbow_version=lambda: 3)
         with self.assertRaisesRegex(ImportError, "rainbow_power_up"):
             rainbow.set_up(other)
 

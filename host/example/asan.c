@@ -19,7 +19,7 @@ enum { MOST_READS = 3240 }; /* of a drawing, at 132 columns */
 static uint8_t *buffers[WAYS][BUFFERS];
 static uint8_t *fence; /* a page that may not be touched */
 static size_t page;
-static unsigned long calls;
+static unsigned long calls, named;
 static uint64_t seed = 0x9E3779B97F4A7C15u;
 
 static uint32_t below(uint32_t n)
@@ -99,6 +99,9 @@ static uint8_t draw(rainbow_machine machine, uint8_t **b, int into)
                                        listed[into]);
     if (drawn.reads > MOST_READS)
         fail("too many bytes read");
+    if (drawn.wild_row >= RAINBOW_ROWS || (!drawn.wild && drawn.wild_row != 0))
+        fail("a row is named that is none");
+    named += drawn.wild;
     return drawn.refusal;
 }
 
@@ -133,8 +136,10 @@ static void refused(rainbow_machine machine, uint8_t **b)
     size_t length = listed[PICTURE] - 1 + 2 * below(2);
     rainbow_stored stored =
         rainbow_store_with_picture(machine, fence, 7, fence, 7, fence, 7, fence, length, address(), any());
-    bool all = stored.refusal == 1 && rainbow_draw(machine, fence, 1, fence, 2, fence, length).refusal == 1 &&
-               rainbow_draw(machine, b[SCREEN], listed[SCREEN], fence, 0, b[PICTURE], length).refusal == 1 &&
+    rainbow_drawn one = rainbow_draw(machine, fence, 1, fence, 2, fence, length);
+    rainbow_drawn other = rainbow_draw(machine, b[SCREEN], listed[SCREEN], fence, 0, b[PICTURE], length);
+    bool all = stored.refusal == 1 && one.refusal == 1 && other.refusal == 1 && !one.wild && !other.wild &&
+               one.wild_row == 0 && other.wild_row == 0 &&
                rainbow_scan_line(machine, fence, length, fence, 0, 0, 1, fence, 3) == 1 &&
                rainbow_glyph_part(fence, length, any()).refusal == 1 &&
                rainbow_write_shadow(fence, 255, 0, any()) == 1;
@@ -162,6 +167,8 @@ int main(void)
     }
     for (int buffer = 0; buffer < BUFFERS; buffer++)
         free(buffers[ON_HEAP][buffer]);
+    if (named == 0)
+        fail("no row was named");
     printf("%lu calls touched nothing outside of their buffers\n", calls);
     return 0;
 }

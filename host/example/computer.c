@@ -118,8 +118,12 @@ static void one_call(void)
 static void compare(void)
 {
     expect(memcmp(&c, &twin, sizeof c) == 0, "the memories, the picture or the machine");
-    rainbow_computer_draw(&c);
+    rainbow_drawn drawn = rainbow_computer_draw(&c);
     expect(memcmp(&c, &twin, sizeof c) == 0, "the kept picture");
+    rainbow_drawn wanted = rainbow_draw(twin.machine, twin.screen, sizeof twin.screen, twin.attribute,
+                                        sizeof twin.attribute, twin.picture, sizeof twin.picture);
+    expect(drawn.refusal == 0 && drawn.reads == wanted.reads, "the answer of a drawing");
+    expect(drawn.wild == wanted.wild && drawn.wild_row == wanted.wild_row, "the wild row of a drawing");
 }
 
 /* Rows as they are read off the screen. */
@@ -130,7 +134,8 @@ static void rows(void)
     memset(d.screen, 'A', sizeof d.screen);
     memcpy(d.screen, "HERD\001\xFF\x50\x01", 8);
     d.attribute[6] = 6; /* the row pointed to is wide and scrolls */
-    rainbow_computer_power_up(&d);
+    rainbow_drawn drawn = rainbow_computer_power_up(&d);
+    expect(drawn.refusal == 0 && drawn.reads == 8 + 41 && !drawn.wild && drawn.wild_row == 0, "power-up's drawing");
     rainbow_row row = rainbow_computer_row(&d, 0);
     expect(row.refusal == 0 && row.start == 0 && row.kind == 3 && row.count == 5 && row.cells == 5, "row 0");
     expect(rainbow_computer_text(&d, 0, text) == 5 && strcmp(text, "HERD.") == 0, "the text of row 0");
@@ -147,6 +152,9 @@ static void rows(void)
     d.picture[23 * RAINBOW_RECORD_BYTES + RAINBOW_COUNT_AT] = 253; /* by hand */
     expect(rainbow_computer_row(&d, 23).cells == 132, "133 cells or more");
     expect(rainbow_computer_text(&d, 23, text) == 132, "the text of 133 cells or more");
+    memcpy(d.screen + 0x150, "\xFF\x00\x42", 3);
+    drawn = rainbow_computer_draw(&d);
+    expect(drawn.wild && drawn.wild_row == 1 && rainbow_computer_row(&d, 2).start == 0x200, "a wild link in row 1");
 }
 
 int main(void)

@@ -1,4 +1,5 @@
-/* Lays two rows of text on the Rainbow's screen, draws them, changes a letter, and prints a scan of the dots. */
+/* Lays two rows of text on the Rainbow's screen, draws them, changes a letter, prints a scan of the dots, and leaves
+ * rubbish in a link. */
 #include "rainbow.h"
 #include <stdio.h>
 
@@ -25,6 +26,20 @@ static void lay(uint32_t place, const char *text, uint32_t next)
     store(place + 2, (uint8_t)(next >> 8), 0x0E);
 }
 
+static rainbow_drawn draw(rainbow_machine machine)
+{
+    return rainbow_draw(machine, screen, sizeof screen, attribute, sizeof attribute, picture, sizeof picture);
+}
+
+static void print_drawn(rainbow_drawn drawn)
+{
+    printf("%d bytes read, ", drawn.reads);
+    if (drawn.wild)
+        printf("the link of row %d is wild\n", drawn.wild_row);
+    else
+        puts("no link is wild");
+}
+
 static void print_row(size_t row)
 {
     const uint8_t *record = picture + row * RAINBOW_RECORD_BYTES;
@@ -45,9 +60,7 @@ int main(void)
     lay(0x000, "HERD BOOK", 0x100);
     lay(0x100, "BERTA   9.6", 0x200);
     lay(0x200, "", 0x200); /* the other rows are this one again and again */
-    rainbow_drawn drawn =
-        rainbow_draw(machine, screen, sizeof screen, attribute, sizeof attribute, picture, sizeof picture);
-    printf("%d bytes read\n", drawn.reads);
+    print_drawn(draw(machine));
     for (size_t row = 0; row < 3; row++)
         print_row(row);
 
@@ -64,5 +77,9 @@ int main(void)
     for (size_t dot = 0; dot < 60; dot++)
         putchar(line[dot] != 0 ? '#' : '.');
     putchar('\n');
+
+    store(0x10D, 0x92, 0x0E); /* the high byte of the link of row 1, which still leads to 0200 */
+    print_drawn(draw(machine));
+    print_row(2);
     return 0;
 }

@@ -46,8 +46,10 @@ static void call_all(const buffer *b, int other)
     expect(rainbow_write_shadow(h->bytes, h->length, 5, 1) == (other == 6), "write_shadow");
     expect(rainbow_write_port(m, h->bytes, h->length, n->bytes, n->length, 0x0A, 0x40).refusal ==
                (other == 5 || other == 6), "write_port");
-    expect(rainbow_draw(m, c->bytes, c->length, a->bytes, a->length, p->bytes, p->length).refusal ==
-               (other == 2 || other == 3 || other == 7), "draw");
+    bool main_two = other == 2 || other == 3;
+    rainbow_drawn drawn = rainbow_draw(m, c->bytes, c->length, a->bytes, a->length, p->bytes, p->length);
+    expect(drawn.refusal == (main_two || other == 7), "draw");
+    expect(drawn.wild == (drawn.refusal == 0) && drawn.wild_row == 0, "the wild row of draw");
     expect(rainbow_store_with_picture(m, s->bytes, s->length, c->bytes, c->length, a->bytes, a->length, p->bytes,
                                       p->length, 0xEE000, 1).refusal == (main_three || other == 7),
            "store_with_picture");
@@ -97,6 +99,7 @@ static void bools(void)
 
 int main(void)
 {
+    memcpy(screen + 5, "\xFF\x00\x10", 3); /* the link of row 0 is wild */
     call_all(right, BUFFERS);
     lengths();
     bools();

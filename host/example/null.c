@@ -33,7 +33,7 @@ int main(void)
     expect(read.refusal == 1 && read.byte == 0, "read_shadow");
     expect(rainbow_write_shadow(NULL, 0, 0, 1) == 1, "write_shadow");
     rainbow_drawn drawn = rainbow_draw(machine, NULL, 0, NULL, 0, NULL, 0);
-    expect(drawn.refusal == 1 && drawn.reads == 0, "draw");
+    expect(drawn.refusal == 1 && drawn.reads == 0 && !drawn.wild && drawn.wild_row == 0, "draw");
     rainbow_stored stored = rainbow_store_with_picture(machine, NULL, 0, NULL, 0, NULL, 0, NULL, 0, 0xEE000, 1);
     expect(stored.refusal == 1 && stored.marks == 0, "store_with_picture");
     rainbow_part_place part = rainbow_glyph_part(NULL, 0, 0x41);

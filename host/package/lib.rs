@@ -18,6 +18,7 @@
 //!
 //! let drawn = picture::draw(machine, &screen, &attribute, &mut picture);
 //! assert_eq!((drawn.refusal, drawn.reads), (0, 72));
+//! assert_eq!((drawn.wild, drawn.wild_row), (true, 0)); // the link of row 0 has its top four bits set
 //!
 //! let stored = mending::store_with_picture(
 //!     machine, &mut shared, &mut screen, &mut attribute, &mut picture, 0xEE000, b'H',
@@ -35,11 +36,11 @@
 //! | [`memories::read_8088`], [`memories::store_8088`] | the 8088 reads; it stores, with no picture |
 //! | [`memories::read_z80`], [`memories::store_z80`] | the Z80 reads and stores |
 //! | [`shadow::read_shadow`], [`shadow::write_shadow`] | the NVM's shadow, by place |
-//! | [`picture::draw`] | draws the picture afresh |
+//! | [`picture::draw`] | draws the picture afresh; how many bytes it read, and the first row whose link is wild |
 //! | [`mending::store_with_picture`], [`marks::is_marked`] | the 8088 stores, and the picture is mended; which rows changed |
 //! | [`glyphs::part`], [`glyphs::refusal`] | the sixteen bytes of a code in the glyph table |
 //! | [`scan_line::draw`], [`scan_line::dots_of_line`] | the dots of a scan line |
-//! | [`listing::list_rows`] | the row lister's text |
+//! | [`listing::list_rows`] | the row lister's text, and what the drawing answers |
 //!
 //! Draw the picture afresh after each change of the column setting. [`chain`] and [`records`] have the constants of a
 //! picture; the other functions that are public are parts of these calls, and are as safe to call.

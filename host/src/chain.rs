@@ -1,4 +1,5 @@
-//! Document 01, "The chain of lines" and "The picture": the walk, the records, and the row lister.
+//! Document 01, "The chain of lines" and "The picture": the walk, the records, and the row lister. Document 02, ticket
+//! 1: the rows whose links are wild.
 use crate::Answer;
 use std::cell::RefCell;
 
@@ -19,6 +20,10 @@ pub const DARK: u8 = 254;
 
 /// The byte that ends a row's cells.
 const FF: u8 = 0xFF;
+
+/// The top four bits of a link, which are those of its high byte. "The reading of one row should now also say whether
+/// its link had any of those bits set".
+const WILD: u8 = 0xF0;
 
 /// How many cells a line of a kind may have. Bits 1 and 0 of the kind say whether it is normal or wide.
 pub fn capacity(columns: usize, kind: u8) -> usize {
@@ -56,12 +61,13 @@ pub struct Places {
     pub attribute: Vec<usize>,
 }
 
-/// A row as it is shown: what its record says, the cells, and what it reads.
+/// A row as it is shown: what its record says, the cells, whether its link is wild, and what it reads.
 struct Row {
     start: usize,
     kind: u8,
     count: u8,
     cells: Vec<(u8, u8)>,
+    wild: bool,
     places: Places,
 }
 
@@ -72,6 +78,7 @@ impl Row {
             kind: 3,
             count: DARK,
             cells: Vec::new(),
+            wild: false,
             places: Places::default(),
         }
     }
@@ -102,17 +109,17 @@ fn row(
     let capacity = capacity(columns, kind);
     let mut cells = Vec::new();
     let mut place = start;
-    let (count, next) = loop {
+    let (count, wild, next) = loop {
         let character = screen.read(place);
         if character == FF {
             let low = screen.read(place + 1);
-            let high = screen.read(place + 2) & 0x0F;
-            let next = usize::from(u16::from_le_bytes([low, high]));
+            let high = screen.read(place + 2);
+            let next = usize::from(u16::from_le_bytes([low, high & !WILD]));
             let kind = attribute.read(place + 1) & 7;
-            break (cells.len() as u8, Some((next, kind)));
+            break (cells.len() as u8, high & WILD != 0, Some((next, kind)));
         }
         if cells.len() == capacity {
-            break (TORN, None);
+            break (TORN, false, None);
         }
         cells.push((character, attribute.read(place)));
         place += 1;
@@ -122,6 +129,7 @@ fn row(
         kind,
         count,
         cells,
+        wild,
         places: Places {
             screen: screen.places.take(),
             attribute: attribute.places.take(),
@@ -130,8 +138,11 @@ fn row(
     (shown, next)
 }
 
-/// The rows of the walk of two memories of the right lengths.
-fn rows(screen: &[u8], attribute: &[u8], columns: usize) -> Vec<Row> {
+/// The rows of the walk of two memories.
+fn rows(screen: &[u8], attribute: &[u8], columns: usize) -> Answer<Vec<Row>> {
+    if screen.len() != PLACES || attribute.len() != PLACES {
+        return Err(1);
+    }
     let mut ahead = Some((0, 3));
     let mut step = || match ahead {
         Some(head) => {
@@ -141,39 +152,56 @@ fn rows(screen: &[u8], attribute: &[u8], columns: usize) -> Vec<Row> {
         }
         None => Row::dark(),
     };
-    (0..ROWS).map(|_| step()).collect()
+    Ok((0..ROWS).map(|_| step()).collect())
 }
 
 /// The places that each row reads.
 pub fn read_by_rows(screen: &[u8], attribute: &[u8], columns: usize) -> Answer<Vec<Places>> {
-    if screen.len() != PLACES || attribute.len() != PLACES {
-        return Err(1);
-    }
-    let rows = rows(screen, attribute, columns).into_iter();
+    let rows = rows(screen, attribute, columns)?.into_iter();
     Ok(rows.map(|row| row.places).collect())
 }
 
-/// What a drawing gives: the bytes of screen memory that it read, and the picture.
+/// The rows whose links are wild.
+pub fn wild_rows(screen: &[u8], attribute: &[u8], columns: usize) -> Answer<Vec<usize>> {
+    let rows = rows(screen, attribute, columns)?;
+    Ok((0..ROWS).filter(|row| rows[*row].wild).collect())
+}
+
+/// What a drawing gives: the bytes of screen memory that it read, the picture, and the first row whose link is wild.
 pub struct Drawn {
     pub reads: usize,
     pub picture: Vec<u8>,
+    pub wild: Option<usize>,
 }
 
 pub fn draw(screen: &[u8], attribute: &[u8], columns: usize) -> Answer<Drawn> {
-    if screen.len() != PLACES || attribute.len() != PLACES {
-        return Err(1);
-    }
-    let rows = rows(screen, attribute, columns);
+    let rows = rows(screen, attribute, columns)?;
     Ok(Drawn {
         reads: rows.iter().map(|row| row.places.screen.len()).sum(),
         picture: rows.iter().flat_map(Row::record).collect(),
+        wild: rows.iter().position(|row| row.wild),
     })
+}
+
+/// What is drawn of the row lister's input.
+fn drawn_input(input: &[u8]) -> Answer<Drawn> {
+    let (screen, attribute) = input.split_at(input.len().min(PLACES));
+    draw(screen, attribute, 80)
+}
+
+/// What the row lister tells on standard error for an input.
+pub fn listing_told(input: &[u8]) -> String {
+    match drawn_input(input) {
+        Ok(Drawn {
+            wild: Some(row), ..
+        }) => format!("rows: the link of row {row} is wild\n"),
+        _ => String::new(),
+    }
 }
 
 /// What the row lister prints for an input.
 pub fn listing(input: &[u8]) -> String {
-    let (screen, attribute) = input.split_at(input.len().min(PLACES));
-    match draw(screen, attribute, 80) {
+    match drawn_input(input) {
         Err(number) => format!("refused {number}\n"),
         Ok(drawn) => {
             let mut text = format!("columns 80 reads {}\n", drawn.reads);
@@ -378,7 +406,172 @@ mod tests {
             let (screen, attribute) = (vec![0; screen], vec![0; attribute]);
             assert_eq!(draw(&screen, &attribute, 80).err(), Some(1));
             assert_eq!(read_by_rows(&screen, &attribute, 80).err(), Some(1));
+            assert_eq!(wild_rows(&screen, &attribute, 80), Err(1));
         }
+    }
+
+    /// The rows whose links are wild, of which a drawing names the first.
+    fn wild(screen: &[u8], attribute: &[u8], columns: usize) -> Vec<usize> {
+        let wild = wild_rows(screen, attribute, columns).unwrap();
+        let drawn = drawn(screen, attribute, columns);
+        assert_eq!(drawn.wild, wild.first().copied());
+        wild
+    }
+
+    /// Rows of no cells, each eight places after the one before. The link of each has these bits in its high byte.
+    fn links(high: impl Fn(usize) -> u8) -> Vec<u8> {
+        let mut screen = memory(0x41, &[]);
+        for row in 0..ROWS + 2 {
+            let next = 8 * (row as u16 + 1);
+            let [low, top] = next.to_le_bytes();
+            screen[8 * row..][..3].copy_from_slice(&[FF, low, top | high(row)]);
+        }
+        screen
+    }
+
+    /// "whether its link had any of those bits set": each of the top four bits of the high byte by itself, and all.
+    #[test]
+    fn each_top_bit_makes_a_link_wild() {
+        for bits in [0x10, 0x20, 0x40, 0x80, 0xF0] {
+            for row in 0..ROWS {
+                let screen = links(|other| if other == row { bits } else { 0 });
+                assert_eq!(wild(&screen, &memory(3, &[]), 80), [row]);
+            }
+        }
+    }
+
+    /// "A dealer's patched herd book leaves rubbish in the top four bits of some links." The other twelve say where the
+    /// next row starts, and no bit of them makes a link wild.
+    #[test]
+    fn the_other_bits_do_not() {
+        for link in [
+            [0x00, 0x00],
+            [0x00, 0x08],
+            [0x00, 0x0F],
+            [0xFF, 0x00],
+            [0xFF, 0x0F],
+        ] {
+            let screen = memory(0x41, &[(0, &[FF]), (1, &link)]);
+            let next = usize::from(u16::from_le_bytes(link));
+            let drawn = drawn(&screen, &memory(3, &[]), 80);
+            assert_eq!((head(&drawn, 1).0, drawn.wild), (next, None));
+        }
+        assert_eq!(wild(&links(|_| 0), &memory(3, &[]), 80), []);
+    }
+
+    /// "each drawing should name the first such row, or none"
+    #[test]
+    fn the_first_wild_row_is_named() {
+        let three = links(|row| if [5, 6, 20].contains(&row) { 0x70 } else { 0 });
+        assert_eq!(wild(&three, &memory(3, &[]), 80), [5, 6, 20]);
+        assert_eq!(drawn(&three, &memory(3, &[]), 80).wild, Some(5));
+        assert_eq!(wild(&memory(FF, &[]), &memory(0, &[]), 80).len(), ROWS);
+        assert_eq!(drawn(&memory(0, &[]), &memory(0, &[]), 80).wild, None);
+    }
+
+    /// "each drawing should name the first such row": the last row's link counts, that of a row after it does not.
+    #[test]
+    fn the_last_row_counts() {
+        for (row, named) in [(22, Some(22)), (23, Some(23)), (24, None)] {
+            let screen = links(|other| if other == row { 0x10 } else { 0 });
+            assert_eq!(drawn(&screen, &memory(3, &[]), 80).wild, named);
+        }
+    }
+
+    /// "A torn or dark row has no link.": FF 81 bytes after the start, or none, and bytes that are wild as a link.
+    #[test]
+    fn a_torn_row_has_no_link() {
+        for (after, wild_row) in [(80, Some(0)), (81, None)] {
+            let screen = memory(0xF1, &[(after, &[FF, 0xF1, 0xF1])]);
+            assert_eq!(drawn(&screen, &memory(3, &[]), 80).wild, wild_row);
+        }
+        assert_eq!(wild(&memory(0xF1, &[]), &memory(3, &[]), 80), []);
+    }
+
+    /// "A torn or dark row has no link.": row 1 is torn and the others dark, though place 0 has a link.
+    #[test]
+    fn a_dark_row_has_no_link() {
+        for (high, rows) in [(0x01, vec![]), (0xF1, vec![0])] {
+            let screen = memory(0xF1, &[(0, &[FF, 0x00, high])]);
+            let drawn = drawn(&screen, &memory(3, &[]), 80);
+            assert_eq!((head(&drawn, 1).2, head(&drawn, 2).2), (TORN, DARK));
+            assert_eq!(wild(&screen, &memory(3, &[]), 80), rows);
+        }
+    }
+
+    /// "A chain that loops shows rows again.": the first of the rows that are the same is named.
+    #[test]
+    fn in_a_loop_the_first_is_named() {
+        let laid: [(usize, &[u8]); 3] = [
+            (0, &[FF, 0x00, 0x01]),
+            (256, &[0x41, FF, 0x00, 0x02]),
+            (512, &[FF, 0x00, 0x81]),
+        ];
+        let even: Vec<usize> = (2..ROWS).step_by(2).collect();
+        assert_eq!(wild(&memory(0, &laid), &memory(3, &[]), 80), even);
+        let itself = memory(0, &[(0, &[0x41, FF, 0x00, 0x40])]);
+        assert_eq!(wild(&itself, &memory(3, &[]), 80).len(), ROWS);
+    }
+
+    /// "If none of the first capacity + 1 bytes is FF the row is torn": at the edges of each kind, at 80 and at 132
+    /// columns, a row that is not has its link read.
+    #[test]
+    fn at_each_capacity() {
+        for (columns, kind) in [80, 132]
+            .into_iter()
+            .flat_map(|c| (0..8).map(move |k| (c, k)))
+        {
+            let most = capacity(columns, kind);
+            for (cells, rows) in [(0, vec![1]), (most, vec![1]), (most + 1, vec![])] {
+                let laid: [(usize, &[u8]); 2] =
+                    [(0, &[FF, 0x00, 0x01]), (256 + cells, &[FF, 0x00, 0x28])];
+                let screen = memory(0x41, &laid);
+                let attribute = memory(3, &[(1, &[kind])]);
+                assert_eq!(wild(&screen, &attribute, columns), rows, "{kind} {cells}");
+            }
+        }
+    }
+
+    /// "all places are taken modulo 4,096": FF at the last three places, so that the high byte is at 4095, 0 and 1.
+    #[test]
+    fn a_link_past_the_last_place() {
+        for (end, high_at) in [(4093, 4095), (4094, 0), (4095, 1)] {
+            for (high, rows) in [(0x0C, vec![]), (0x2C, vec![1])] {
+                let laid: [(usize, &[u8]); 2] = [(2, &[FF, 0xF0, 0x0F]), (end, &[FF])];
+                let mut screen = memory(0x41, &laid);
+                screen[high_at] = high;
+                assert_eq!(wild(&screen, &memory(3, &[]), 80), rows, "{end}");
+            }
+        }
+    }
+
+    /// "Rows, marks and read counts stay."
+    #[test]
+    fn rows_and_read_counts_stay() {
+        for columns in [80, 132] {
+            let wild = drawn(&links(|row| (row as u8) << 4), &memory(3, &[]), columns);
+            let tame = drawn(&links(|_| 0), &memory(3, &[]), columns);
+            assert_eq!(
+                (wild.reads, wild.picture == tame.picture),
+                (tame.reads, true)
+            );
+            assert_eq!((wild.wild, tame.wild), (Some(1), None));
+        }
+    }
+
+    /// The lister names the row on standard error, and prints what it always did.
+    #[test]
+    fn lister_of_a_wild_link() {
+        let attribute = memory(3, &[]);
+        let input = [links(|row| (row as u8) << 4), attribute.clone()].concat();
+        let tame = [links(|_| 0), attribute].concat();
+        assert_eq!(listing(&input), listing(&tame));
+        assert_eq!(listing_told(&input), "rows: the link of row 1 is wild\n");
+        assert_eq!(listing_told(&tame), "");
+        for length in [0, 4096, 8191] {
+            assert_eq!(listing_told(&input[..length]), "");
+        }
+        assert_eq!(listing_told(&[input, vec![0]].concat()), "");
     }
 
     /// "For 8,192 zero bytes it prints, whole:" two lines. "Input of another length prints `refused 1`."

@@ -1,5 +1,5 @@
 //! Memories that are hard to walk, and programs that are given them.
-use crate::chain::{capacity, PLACES, ROWS};
+use crate::chain::{capacity, read_by_rows, PLACES, ROWS};
 use std::io::{Read, Write};
 use std::process::{Command, Stdio};
 
@@ -37,12 +37,14 @@ fn strewn(chance: &mut Chance, every: usize, under: usize) -> Vec<u8> {
 }
 
 /// A chain laid through memory: each row ends a chosen number of bytes after its start, most often at
-/// its capacity or beside it, and goes on at a chosen place, with any bits in the link's top four.
+/// its capacity or beside it, and goes on at a chosen place, with any bits in the link's top four. Now
+/// and then the chain goes straight on, with no row torn.
 fn laid(chance: &mut Chance, screen: &mut [u8], attribute: &mut [u8]) {
     let (mut start, mut kind) = (0, 3);
+    let straight = chance.below(4) == 0;
     for _ in 0..ROWS + 2 {
         let capacity = capacity(80, kind);
-        let cells = match chance.below(8) {
+        let cells = match chance.below(if straight { 7 } else { 8 }) {
             0 => 0,
             1 => chance.below(capacity),
             2 | 3 => capacity - 1,
@@ -56,6 +58,7 @@ fn laid(chance: &mut Chance, screen: &mut [u8], attribute: &mut [u8]) {
         }
         let end = start + cells;
         let next = match chance.below(6) {
+            _ if straight => end + 3,
             0 => start,
             1 => start + chance.below(cells + 1),
             2 => PLACES - 1 - chance.below(100),
@@ -71,6 +74,31 @@ fn laid(chance: &mut Chance, screen: &mut [u8], attribute: &mut [u8]) {
     }
 }
 
+/// Chooses which links are wild: those that are, none, or that of one row, most often the last, and none before it. An
+/// FF stays, since another row may end there.
+pub fn choose_wild(chance: &mut Chance, screen: &mut [u8], attribute: &[u8], columns: usize) {
+    let first = match chance.below(8) {
+        0 | 1 => return,
+        2 | 3 => ROWS,
+        4..=6 => ROWS - 1,
+        _ => chance.below(ROWS),
+    };
+    let rows = read_by_rows(screen, attribute, columns).expect("the right lengths");
+    for (row, places) in rows.iter().enumerate() {
+        // The last three that a row reads, unless it is torn or dark: FF and the link.
+        let high = match places.screen[..] {
+            [.., end, _, high] if screen[end] == 0xFF && screen[high] != 0xFF => high,
+            _ => continue,
+        };
+        if row < first {
+            screen[high] &= 0x0F;
+        } else if row == first {
+            let any = chance.byte() | 0x10;
+            screen[high] |= chance.of(&[0x10, 0x20, 0x40, 0x80, any & 0xF0]);
+        }
+    }
+}
+
 /// A screen memory and then an attribute memory.
 pub fn memories(chance: &mut Chance) -> Vec<u8> {
     let every = chance.of(&[1, 2, 3, 5, 10, 20, 40, 41, 42, 79, 80, 81, 82, 160, 5000]);
@@ -80,6 +108,7 @@ pub fn memories(chance: &mut Chance) -> Vec<u8> {
     if chance.below(2) == 0 {
         laid(chance, &mut screen, &mut attribute);
     }
+    choose_wild(chance, &mut screen, &attribute, 80);
     [screen, attribute].concat()
 }
 
@@ -116,4 +145,30 @@ pub fn written(
     child.stderr.take().unwrap().read_to_string(&mut told)?;
     child.wait()?;
     Ok((out, told))
+}
+
+#[cfg(test)]
+mod tests {
+    use super::*;
+    use crate::chain::draw;
+
+    /// Screens whose first wild link is row 0's, that of a row between, or the last row's, and screens without one are
+    /// all chosen often enough to be tried.
+    #[test]
+    fn wild_links_are_chosen() {
+        let mut chance = Chance(0x9E3779B97F4A7C15);
+        let mut first = [0; ROWS + 1];
+        for _ in 0..2000 {
+            let memories = memories(&mut chance);
+            let (screen, attribute) = memories.split_at(PLACES);
+            let drawn = draw(screen, attribute, 80).ok().unwrap();
+            first[drawn.wild.unwrap_or(ROWS)] += 1;
+        }
+        let between: usize = first[1..ROWS - 1].iter().sum();
+        let (row_0, last, none) = (first[0], first[ROWS - 1], first[ROWS]);
+        assert!(
+            row_0 > 100 && between > 100 && none > 100 && last > 20,
+            "{first:?}"
+        );
+    }
 }

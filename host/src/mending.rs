@@ -164,6 +164,19 @@ mod tests {
         }
     }
 
+    /// "Rows, marks and read counts stay.": a store that makes a link wild, or tame again, marks no row.
+    #[test]
+    fn a_wild_link_marks_no_row() {
+        let mut view = three_rows();
+        let mut picture = fresh(&view);
+        for (byte, wild) in [(0x92, Some(1)), (0xF2, Some(1)), (0x02, None)] {
+            let marks = store(&mut view, &mut picture, COLUMNS, 0xEE104, byte);
+            assert_eq!((marks, &picture), (Ok(0), &fresh(&view)));
+            let drawn = draw(&view.screen, &view.attribute, COLUMNS);
+            assert_eq!(drawn.ok().unwrap().wild, wild);
+        }
+    }
+
     /// "bit r is set exactly when record r changed": also where the kept record was not true.
     #[test]
     fn marks_are_of_the_records_that_changed() {

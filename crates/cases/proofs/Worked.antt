@@ -6,8 +6,10 @@ use Rattle.memories.specs.ViewZ80.{lengthsZ80, isPrivate}
 use Rattle.ports.specs.Ports.{lengthsNvm}
 use Rattle.chain.specs.Chain.{byteAt, capacity, firstFF, terminator, link, rowFrom, next, rowAt}
 use Rattle.chain.specs.Reading.{reads, readsTo, from, screenRead, attributeRead}
+use Rattle.chain.specs.Wild.{wildLink, wild}
 use Rattle.records.specs.Record.{cellPairs, fillPairs, recordOf}
 use Rattle.picture.specs.Picture.{inOrder, recordIn}
+use Rattle.picture.specs.Wild.{firstWildFrom}
 use Rattle.picture.specs.Draw.{lengthsPicture}
 use Rattle.marks.specs.Marks.{bitSet, marksTo}
 use Rattle.readers.specs.Readers.{among, firstFrom}
@@ -22,13 +24,13 @@ use Rattle.ascii.specs.Ascii.{ascii}
 use Rattle.ascii.specs.Numbers.{decimal, reached, digit, hex}
 use Rattle.listing.specs.Listing.{heading, counted, rowAndStart, line, lineOf as rowLine, linesTo, refusedText, textOf, drawing, listRows}
 use Rattle.cases.specs.Said.{Said, Case, differ}
-use Rattle.cases.specs.Screens.{alikeFrom, alike, drawnFrom, rowsOf, drawnAll, memory, byteOfRow, startOfRow, countOfRow}
+use Rattle.cases.specs.Screens.{alikeFrom, alike, drawnFrom, rowsOf, drawnAll, memory, byteOfRow, startOfRow, countOfRow, named, emptyRows}
 use Rattle.cases.specs.Memories.{zeros, refusedBy, storedByZ80, storedBy8088}
 use Rattle.cases.specs.Ports.{shadow, nvm, written, writtenAll, none, recalls}
 use Rattle.cases.specs.Mends.{markedOf, markedFrom, marked, storedAt, mendedRow}
 use Rattle.cases.specs.Dots.{showing, rowOfKind, litDots, everyByte, ofCharacter, numbered, digits80, digits132, bits, litByBits, underDigits, printed}
 use Rattle.cases.specs.Lister.{listedOf}
-use Rattle.cases.specs.Table.{screens, stores, writes, mends, dots, prints, table}
+use Rattle.cases.specs.Table.{screens, wildLinks, stores, writes, mends, dots, prints, table}
 use Rattle.cases.specs.Worked.{Worked}
 
 abbrev gives : List Case → List (List Said)
@@ -40,6 +42,10 @@ says = map (λ (c : Case). c .says)
 drawn : gives screens ≡ says screens
 unfolding byteAt capacity firstFF terminator link rowFrom next rowAt reads readsTo cellPairs fillPairs recordOf inOrder lengthsPicture alikeFrom alike drawnFrom rowsOf drawnAll memory byteOfRow startOfRow countOfRow screens
 drawn = refl
+
+named-out : gives wildLinks ≡ says wildLinks
+unfolding byteAt capacity firstFF terminator link rowFrom next rowAt wildLink wild firstWildFrom reads readsTo cellPairs fillPairs recordOf inOrder lengthsPicture drawnFrom memory named emptyRows wildLinks
+named-out = refl
 
 stored : gives stores ≡ says stores
 unfolding within lengths8088 seen8088 lengthsZ80 isPrivate differ zeros refusedBy storedByZ80 storedBy8088 stores
@@ -63,4 +69,4 @@ printed-out = refl
 
 pub worked : Worked
 unfolding table
-worked = simp map-append (rw (drawn, stored, written-out, mended-out, shown-out, printed-out))
+worked = simp map-append (rw (drawn, named-out, stored, written-out, mended-out, shown-out, printed-out))

@@ -10,4 +10,4 @@ use Rattle.cases.specs.Said.{Said, Prints}
 unfoldable pub listedOf : (screen attribute : List ℕ) → (beyond : ℕ) → List Said
 listedOf screen attribute beyond =
     let left = listRows screen attribute beyond (replicate pictureBytes 0x00) (replicate textBytes 0x00) in
-    Prints (take (left .bytes) (left .text)) ∷ []
+    Prints (take (left .answer .bytes) (left .text)) ∷ []

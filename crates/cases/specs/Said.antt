@@ -1,4 +1,4 @@
--- The words in which document 01 gives the outcome of a worked case.
+-- The words in which document 01, and 02 after it, give the outcome of a worked case.
 use Prim.Native.Nat.{ℕ, _+_}
 use mathlib.Core.List.{List, [], _∷_}
 use mathlib.Core.Bool.{Bool, cond}
@@ -16,12 +16,13 @@ pub data Said : Type 0 where
   Start : ℕ → Said
   Count : ℕ → Said
   Reads : ℕ → Said
+  Names : (wild : Bool) → (row : ℕ) → Said
   Marked : (row : ℕ) → Said
   Dots : (lit : List ℕ) → Said
   GlyphScan : ℕ → Said
   Prints : (text : List ℕ) → Said
 
--- a case: what the definitions give, and what document 01 says
+-- a case: what the definitions give, and what the document says
 pub record Case : Type 0 where
   pub gives : List Said
   pub says : List Said

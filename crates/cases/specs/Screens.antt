@@ -1,4 +1,4 @@
--- P1 to P6: screens drawn at power-up, 80 columns, told by the bytes of the picture.
+-- P1 to P6: screens drawn at power-up, 80 columns, told by the bytes of the picture; and the first wild row of a screen.
 use Prim.Native.Nat.{ℕ, zero, suc, _+_, _-_, _*_}
 use mathlib.Core.List.{List, [], _∷_, _++_}
 use lib.ListN.{length, getD, drop, replicate}
@@ -7,7 +7,7 @@ use Rattle.machine.specs.Power.{powerUp}
 use Rattle.chain.specs.Chain.{rows}
 use Rattle.records.specs.Record.{recordBytes}
 use Rattle.picture.specs.Draw.{DrawnPicture, draw}
-use Rattle.cases.specs.Said.{Said, Row, Start, Count, Reads}
+use Rattle.cases.specs.Said.{Said, Row, Start, Count, Reads, Names}
 
 -- rows that are alike, so many from `row` on
 unfoldable pub alikeFrom : (row start kind count more : ℕ) → List Said
@@ -48,3 +48,14 @@ startOfRow row bytes beside = Start (256 * byteOfRow row 0 bytes beside + byteOf
 
 unfoldable pub countOfRow : ℕ → List ℕ → ℕ → List Said
 countOfRow row bytes beside = Count (byteOfRow row 3 bytes beside) ∷ []
+
+-- the row that the drawing names, where every attribute byte is the same
+unfoldable pub named : List ℕ → ℕ → List Said
+named bytes beside =
+    let answer = drawnFrom (memory bytes) (replicate attributeBytes beside) .answer in
+    Names (answer .wild) (answer .«wild_row») ∷ []
+
+-- rows of no cells, one after the other, so many from `row` on, and then these bytes
+unfoldable pub emptyRows : (row more : ℕ) → List ℕ → List ℕ
+emptyRows row zero bytes = bytes
+emptyRows row (suc more) bytes = 0xFF ∷ 3 * (row + 1) ∷ 0 ∷ emptyRows (row + 1) more bytes

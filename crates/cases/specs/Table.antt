@@ -1,4 +1,4 @@
--- Document 01, "Screens and ports worked out": the cases marked P.
+-- Document 01, "Screens and ports worked out": the cases marked P. Document 02: those of ticket 1.
 use Prim.Native.Nat.{_-_}
 use mathlib.Core.List.{List, [], _∷_, _++_}
 use mathlib.Core.Bool.{true, false}
@@ -7,8 +7,8 @@ use Rattle.lent.specs.Lengths.{screenBytes, attributeBytes}
 use Rattle.machine.specs.Power.{powerUp}
 use Rattle.glyphs.specs.Scans.{glyphScan}
 use Rattle.ascii.specs.Ascii.{ascii}
-use Rattle.cases.specs.Said.{Case, Private, Shared, Screen, Attribute, Refused, Interlaced, Recalls, Row, Start, Count, Reads, Dots, GlyphScan, Prints}
-use Rattle.cases.specs.Screens.{alike, drawnAll, startOfRow, countOfRow}
+use Rattle.cases.specs.Said.{Case, Private, Shared, Screen, Attribute, Refused, Interlaced, Recalls, Row, Start, Count, Reads, Names, Dots, GlyphScan, Prints}
+use Rattle.cases.specs.Screens.{alike, drawnAll, startOfRow, countOfRow, named, emptyRows}
 use Rattle.cases.specs.Memories.{storedByZ80, storedBy8088}
 use Rattle.cases.specs.Ports.{writtenAll, recalls}
 use Rattle.cases.specs.Lister.{listedOf}
@@ -39,6 +39,34 @@ screens =
     -- P6: double width, 80: FF 40 or 41 after: count 40; torn. Row 1 starts at place 3
     ∷ record { gives = countOfRow 1 (0xFF ∷ 3 ∷ 0 ∷ replicate 40 0x41 ++ (0xFF ∷ [])) 2; says = Count 40 ∷ [] }
     ∷ record { gives = countOfRow 1 (0xFF ∷ 3 ∷ 0 ∷ replicate 41 0x41 ++ (0xFF ∷ [])) 2; says = Count 255 ∷ [] }
+    ∷ []
+
+-- 02, ticket 1: "each drawing should name the first such row, or none". The screens of P1 to P4 and others like them.
+unfoldable pub wildLinks : List Case
+wildLinks =
+    -- P1: each link is FF FF
+    record { gives = named (replicate screenBytes 0xFF) 0; says = Names true 0 ∷ [] }
+    -- P2: row 0 is torn, the others dark: none "has a link"
+    ∷ record { gives = named [] 0; says = Names false 0 ∷ [] }
+    -- P3 and P4: the high byte is 01; F1
+    ∷ record { gives = named (0xFF ∷ 0x50 ∷ 0x01 ∷ []) 3; says = Names false 0 ∷ [] }
+    ∷ record { gives = named (0xFF ∷ 0x50 ∷ 0xF1 ∷ []) 3; says = Names true 0 ∷ [] }
+    -- bit 4 alone; bits 7 to 4 of the low byte; bit 3 alone, where row 1 leads back to row 0
+    ∷ record { gives = named (0xFF ∷ 0x50 ∷ 0x10 ∷ []) 3; says = Names true 0 ∷ [] }
+    ∷ record { gives = named (0xFF ∷ 0xF0 ∷ 0x00 ∷ []) 3; says = Names false 0 ∷ [] }
+    ∷ record {
+      gives = named (0xFF ∷ 0x00 ∷ 0x08 ∷ replicate 2045 0x00 ++ (0xFF ∷ 0 ∷ 0 ∷ [])) 3;
+      says = Names false 0 ∷ [];
+    }
+    -- rows 1 and 2 are wild, 0 is not
+    ∷ record { gives = named (emptyRows 0 1 (0xFF ∷ 6 ∷ 0x80 ∷ 0xFF ∷ 0 ∷ 0x10 ∷ [])) 3; says = Names true 1 ∷ [] }
+    -- row 1 is torn, all its bytes F0
+    ∷ record { gives = named (emptyRows 0 1 (replicate 84 0xF0)) 3; says = Names false 0 ∷ [] }
+    -- row 1 leads to itself, and so is every later row
+    ∷ record { gives = named (emptyRows 0 1 (0xFF ∷ 3 ∷ 0x20 ∷ [])) 3; says = Names true 1 ∷ [] }
+    -- the last row alone; a row more than there are
+    ∷ record { gives = named (emptyRows 0 23 (0xFF ∷ 0 ∷ 0x40 ∷ [])) 3; says = Names true 23 ∷ [] }
+    ∷ record { gives = named (emptyRows 0 24 (0xFF ∷ 0 ∷ 0x40 ∷ [])) 3; says = Names false 0 ∷ [] }
     ∷ []
 
 -- P7, P8
@@ -146,4 +174,4 @@ prints =
     ∷ []
 
 unfoldable pub table : List Case
-table = screens ++ stores ++ writes ++ mends ++ dots ++ prints
+table = screens ++ wildLinks ++ stores ++ writes ++ mends ++ dots ++ prints

@@ -1,5 +1,5 @@
 -- Rows are what they read: the statements of specs/Alike.antt.
-use Prim.Native.Nat.{ℕ, zero, suc, _+_, _%_, _≤_, _<_}
+use Prim.Native.Nat.{ℕ, zero, suc, _+_, _*_, _%_, _≤_, _<_}
 use mathlib.Core.Path.{_≡_, refl, sym, ap, _∙_}
 use mathlib.Core.List.{List, _++_}
 use mathlib.Core.Bool.{Bool, true, false, cond}
@@ -10,7 +10,7 @@ use lib.Dec.{eqb}
 use Rattle.chain.specs.Chain.{Chain, places, byteAt, capacity, firstFF, terminator, ended, link, rowFrom, rowAt}
 use Rattle.chain.specs.Reading.{from, screenRead, attributeRead}
 use Rattle.chain.specs.Inner.{rowAhead, aheadAfter, aheadOf}
-use Rattle.chain.specs.Alike.{bytesAt, ReadAlike, RowIsWhatItReads, RowsAreWhatTheyRead}
+use Rattle.chain.specs.Alike.{bytesAt, readAheadOfHigh, lowFour, ReadAlike, RowIsWhatItReads, RowsAreWhatTheyRead}
 use Rattle.chain.specs.declared.Head.{Head}
 use Rattle.chain.specs.declared.Terminator.{Terminator}
 use Rattle.chain.specs.declared.Terminator.the-variants.{After, Missing}
@@ -37,6 +37,17 @@ module _ (s t : List ℕ) where
       let later : bytesAt s (from (place + 1) n) ≡ bytesAt t (from (place + 1) n) = cc in
       let at : place + suc i ≡ place + 1 + i = omega arith in
       rw at (each-alike (place + 1) n later i (omega arith))
+
+  -- a stretch that is a byte shorter
+  pub shorter-alike :
+      (place n : ℕ) → bytesAt s (from place (suc n)) ≡ bytesAt t (from place (suc n))
+      → bytesAt s (from place n) ≡ bytesAt t (from place n)
+  unfolding from
+  shorter-alike place zero e = refl
+  shorter-alike place (suc n) e =
+      let first : byteAt s (place % places) ≡ byteAt t (place % places) = cc in
+      let later : bytesAt s (from (place + 1) (suc n)) ≡ bytesAt t (from (place + 1) (suc n)) = cc in
+      rw (first, shorter-alike (place + 1) n later)
 
   -- two stretches, one after the other
   pub both-alike :
@@ -106,11 +117,14 @@ module _ (s : List ℕ) (start : ℕ) where
 
 link-alike :
     (c d : Chain) (place : ℕ) → byteAt (c .screen) (place + 1) ≡ byteAt (d .screen) (place + 1)
-    → byteAt (c .screen) (place + 2) ≡ byteAt (d .screen) (place + 2)
+    → byteAt (c .screen) (place + 2) % 16 ≡ byteAt (d .screen) (place + 2) % 16
     → byteAt (c .attribute) (place + 1) ≡ byteAt (d .attribute) (place + 1)
     → link (d .screen) (d .attribute) place ≡ link (c .screen) (c .attribute) place
 unfolding link
-link-alike c d place low high kind = rw (low, high, kind)
+link-alike c d place low high kind =
+    let start : (byteAt (d .screen) (place + 1) + 256 * byteAt (d .screen) (place + 2)) % places
+    ≡ (byteAt (c .screen) (place + 1) + 256 * byteAt (c .screen) (place + 2)) % places = omega arith in
+    rw (start, kind)
 
 module _ (c d : Chain) (head : Head) where
   -- a row ends alike where the bytes that its search looked at are alike
@@ -128,17 +142,17 @@ module _ (c d : Chain) (head : Head) where
   row-alike :
       (t : Terminator) → terminator c head ≡ t → ReadAlike c d (ended head t)
       → (ended head (terminator d head) ≡ ended head t) × (aheadAfter d (ended head t) ≡ aheadAfter c (ended head t))
-  unfolding screenRead attributeRead
+  unfolding readAheadOfHigh lowFour screenRead attributeRead
   row-alike (After n) e alike =
       let start = head .start in
-      let screen = each-alike (c .screen) (d .screen) start (n + 3) (alike .screen) in
+      let screen = each-alike (c .screen) (d .screen) start (n + 2) (alike .screen) in
       let beside = both-alike (c .attribute) (d .attribute) start n (from (start + n + 1) 1) (alike .attribute) .1 in
       let kind = each-alike (c .attribute) (d .attribute) (start + n + 1) 1 beside 0 (omega arith) in (
         ap (ended head) (terminator-alike (After n) e (alike .columns) (λ i h. screen i (omega arith))),
         ap RowAhead
             (link-alike c d (start + n)
             (rw (add-assoc start n 1) (screen (n + 1) (omega arith)))
-            (rw (add-assoc start n 2) (screen (n + 2) (omega arith)))
+            (alike .high)
             (rw add-zero at kind)),
       )
   row-alike Missing e alike = (

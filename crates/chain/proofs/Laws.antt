@@ -1,4 +1,4 @@
--- Laws about the chain: the search for a terminator, a line's capacity, what lies ahead.
+-- Laws about the chain: the search for a terminator, a line's capacity, what lies ahead, one row and those after it.
 use Prim.Native.Nat.{ℕ, zero, suc, _+_, _-_, _/_, _≤_, _<_}
 use mathlib.Core.Path.{_≡_, refl, sym, ap, _∙_}
 use mathlib.Core.List.{List}
@@ -7,7 +7,7 @@ use native.Mathlib.Nat.{mod-lt, mod-eq-of-lt}
 use native.Mathlib.Omega.{arith}
 use lib.ListN.{getD}
 use lib.Dec.{eqb}
-use borrow.Author.Tests.{eq-eqb, ne-eqb}
+use borrow.Author.Tests.{eq-eqb, ne-eqb, eqb-true, eqb-false}
 use Rattle.chain.specs.Chain.{Chain, places, Row as ARow, Whole, Torn, Dark as DarkRow, byteAt, wide, capacity, firstFF, terminator, link, ended, rowFrom, next, rowAt}
 use Rattle.chain.specs.Inner.{rowAhead, aheadAfter, aheadOf, Placed}
 use Rattle.chain.specs.declared.Head.{Head}
@@ -94,3 +94,13 @@ pub ahead-placed : (c : Chain) (row : ℕ) → Placed (aheadOf c row)
 unfolding aheadOf
 ahead-placed c zero = omega arith
 ahead-placed c (suc row) = placed-after c (rowAt c row)
+
+-- what holds of one row, and of those after it up to a last one
+pub one-and-later :
+    (P : ℕ → Type 0) (row last : ℕ) → P row → ((r : ℕ) → row + 1 ≤ r → r < last → P r)
+    → (r : ℕ) → row ≤ r → r < last → P r
+one-and-later P row last one later r from under = go (eqb r row) refl
+  where
+    go : (b : Bool) → eqb r row ≡ b → P r
+    go true same = rw (eqb-true r row same) one
+    go false other = let apart : (r ≡ row → ⊥) = eqb-false r row other in later r (omega (arith, apart)) under

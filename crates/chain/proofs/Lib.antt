@@ -1,4 +1,5 @@
 pub mod Laws
 pub mod Reading
+pub mod Wild
 pub mod Alike
 pub mod Searching

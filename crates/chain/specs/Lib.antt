@@ -1,4 +1,5 @@
 pub mod Chain
 pub mod Reading
+pub mod Wild
 pub mod Alike
 pub mod Inner

@@ -6,6 +6,7 @@ ghost use lib.ListN.{length};
 ghost use Rattle.lent.specs.Lengths.{screenBytes, attributeBytes};
 ghost use Rattle.chain.specs.Inner.{hasFF, Sought};
 ghost use Rattle.chain.specs.Chain.{places, byteAt, wide, capacity, first, firstFF, link};
+ghost use Rattle.chain.specs.Wild.{wildLink};
 
 // There are always so many rows.
 pub const ROWS: usize = 24;
@@ -146,4 +147,14 @@ pub fn link(screen: &[u8], attribute: &[u8], place: usize) -> Head
         start: (low + 256 * high) % lent::SCREEN_BYTES,
         kind: byte_at(attribute, place + 1) % 8,
     }
+}
+
+// Whether the link after the terminator at `place` is wild: whether any of the top four bits of its high
+// byte is set, which play no part in where it leads.
+pub fn is_wild(screen: &[u8], place: usize) -> bool
+    requires { ⌜ length (now screen) ≡ screenBytes ⌝ }
+    requires { ⌜ place < places + places ⌝ }
+    ensures { λ r. ⌜ r ≡ wildLink (now (screen .entry)) place ⌝ }
+{
+    byte_at(screen, place + 2) / 16 != 0
 }

@@ -14,7 +14,8 @@ use Rattle.listing.specs.Listing.{textOf, drawing, listed, listRows}
 pub all-listed :
     (screen attribute picture : List ℕ) (beyond : ℕ) {text after : List ℕ} {width to : ℕ} {left : DrawnPicture}
     → left ≡ drawing screen attribute beyond picture → width ≡ columns powerUp → Put text 0 (textOf width left) after to
-    → listed to (left .picture) after ≡ listRows screen attribute beyond picture text
+    → listed (record { bytes = to; drawn = left .answer }) (left .picture) after
+    ≡ listRows screen attribute beyond picture text
 unfolding listRows
 all-listed screen attribute picture beyond {width = width} {left = left} read narrow p =
     rw (p .text, p .goes-on ∙ zero-add (length (textOf width left)), narrow, read)

@@ -13,6 +13,7 @@ use Rattle.records.specs.Record.{recordBytes, startLowAt, kindAt, countAt, torn
 use Rattle.picture.specs.Draw.{DrawnPicture, refuseDrawing, draw}
 use Rattle.ascii.specs.Ascii.{ascii}
 use Rattle.ascii.specs.Numbers.{decimal, hex}
+use Rattle.listing.specs.declared.Listed.{Listed}
 
 abbrev pub newline : List ℕ
 newline = 0x0A ∷ []
@@ -63,20 +64,22 @@ drawing screen attribute beyond picture =
     cond (not (eqb beyond 0)) (refuseDrawing lengthRefused picture)
     (draw powerUp screen attribute picture)
 
--- what listing leaves: how many bytes of text there are, the picture and the text
-pub record Listed : Type 0 where
-  pub bytes : ℕ
+-- what listing leaves: its answer, the picture and the text
+pub record ListedRows : Type 0 where
+  pub answer : Listed
   pub picture : List ℕ
   pub text : List ℕ
 
-abbrev pub listed : ℕ → List ℕ → List ℕ → Listed
-listed bytes picture text = record { bytes = bytes; picture = picture; text = text }
+abbrev pub listed : Listed → List ℕ → List ℕ → ListedRows
+listed answer picture text = record { answer = answer; picture = picture; text = text }
 
-unfoldable pub listRows : (screen attribute : List ℕ) → (beyond : ℕ) → (picture text : List ℕ) → Listed
+-- the answer is how many bytes of text there are, and the drawing's own, which names the first wild row: the text does
+-- not
+unfoldable pub listRows : (screen attribute : List ℕ) → (beyond : ℕ) → (picture text : List ℕ) → ListedRows
 listRows screen attribute beyond picture text =
     let left = drawing screen attribute beyond picture in
     let words = textOf (columns powerUp) left in
-    listed (length words) (left .picture) (sets text 0 words)
+    listed (record { bytes = length words; drawn = left .answer }) (left .picture) (sets text 0 words)
 
 -- the bytes of a heading and of a line with each number at its longest, five digits, and room for the longest text
 abbrev pub headingMost : ℕ

@@ -24,6 +24,13 @@ const LINE_MOST: usize = 23;
 
 pub const TEXT_BYTES: usize = HEADING_MOST + chain::ROWS * LINE_MOST;
 
+// What listing answers: how many bytes of text there are, and the drawing's answer, of which the text says all but the
+// wild row.
+pub struct Listed {
+    pub bytes: usize,
+    pub drawn: Drawn,
+}
+
 fn put_heading(text: &mut [u8], columns: u16, reads: u16) -> usize
     requires { ⌜ headingMost ≤ length (now text) ⌝ }
     ensures { λ r. ⌜ Put (now (text .entry)) 0 (heading columns reads) (now (text .exit)) r ⌝ }
@@ -139,29 +146,27 @@ fn draw_read(screen: &[u8], attribute: &[u8], beyond: usize, picture: &mut [u8])
         ≡ drawing (now (screen .entry)) (now (attribute .entry)) beyond (now (picture .entry)) ⌝ }
 {
     if beyond != 0 {
-        return Drawn {
-            refusal: lent::LENGTH,
-            reads: 0,
-        };
+        return Drawn::refused(lent::LENGTH);
     }
     picture::draw(Machine::power_up(), screen, attribute, picture)
 }
 
-// Draws what was read at power-up, which is at 80 columns, and lists its rows. The answer is how many
-// bytes of text there are.
+// Draws what was read at power-up, which is at 80 columns, and lists its rows.
 pub fn list_rows(
     screen: &[u8],
     attribute: &[u8],
     beyond: usize,
     picture: &mut [u8; PICTURE_BYTES],
     text: &mut [u8; TEXT_BYTES],
-) -> usize
+) -> Listed
     ensures { λ r. ⌜ listed r (now (picture .exit)) (now (text .exit))
         ≡ listRows (now (screen .entry)) (now (attribute .entry)) beyond
         (now (picture .entry)) (now (text .entry)) ⌝ }
-    ensures { λ r. ⌜ (r ≤ length (now (text .exit))) × (r ≡ length (take r (now (text .exit)))) ⌝ }
+    ensures { λ r. ⌜ (r .bytes ≤ length (now (text .exit)))
+        × (r .bytes ≡ length (take (r .bytes) (now (text .exit)))) ⌝ }
 {
     let drawn = draw_read(screen, attribute, beyond, picture);
     let columns = Machine::power_up().columns() as u16;
-    put_drawn(columns, drawn, picture, text)
+    let bytes = put_drawn(columns, drawn, picture, text);
+    Listed { bytes, drawn }
 }

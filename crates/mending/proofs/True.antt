@@ -16,6 +16,8 @@ use Rattle.memories.specs.View8088.{seen8088, refusal8088, byteSeen, storeSeen}
 use Rattle.memories.specs.declared.view8088.Seen.{Seen}
 use Rattle.memories.specs.declared.view8088.Seen.the-variants.{Shared, Screen, Attribute, Nowhere}
 use Rattle.chain.specs.Chain.{Chain, chain, Row, Whole, Torn, Dark, places, byteAt, capacity, terminator, link, rowFrom, next, rows, rowAt}
+use Rattle.chain.specs.Reading.{screenRead}
+use Rattle.chain.specs.Alike.{readAheadOfHigh, lowFour, ReadAlike}
 use Rattle.records.specs.Record.{recordPairs, cellPairs, recordOf}
 use Rattle.picture.specs.Picture.{recordAt, pictureOf, recordIn}
 use Rattle.picture.specs.Draw.{chainOf}
@@ -23,13 +25,13 @@ use Rattle.picture.proofs.Laws.{columns-fit}
 use Rattle.picture.proofs.Alike.{records-are-what-the-rows-read}
 use Rattle.picture.proofs.Records.{same-records, record-in-order}
 use Rattle.picture.proofs.Sizes.{records-sized, picture-sized}
-use Rattle.readers.specs.Readers.{firstReader}
+use Rattle.readers.specs.Readers.{among, firstReader}
 use Rattle.readers.specs.Stored.{chainStored}
 use Rattle.readers.proofs.Readers.{is-first}
-use Rattle.readers.proofs.Stored.{unread-leaves}
+use Rattle.readers.proofs.Stored.{Leaves, from-leaves, unread-leaves}
 use Rattle.mending.specs.Mending.{mendedRecord, mended, marksOf}
 use Rattle.mending.specs.Store.{lengthsWithPicture, StoredWithPicture, storedWithPicture, refusalWithPicture, storeWithPicture}
-use Rattle.mending.specs.True.{TruePicture, KeepsTrue, MarksFresh, SameByteMarksNothing, UpperBitsMarkNothing}
+use Rattle.mending.specs.True.{TruePicture, KeepsTrue, MarksFresh, SameByteMarksNothing, UpperBitsMarkNothing, TopBitsMarkNothing}
 use Rattle.mending.proofs.Outcome.{unchanged, accepts, refused-outcome, mended-outcome}
 
 module _ (c : Chain) (seen : Seen) (byte : ℕ) (shared : List ℕ) (wide : c .columns ≤ recordPairs) where
@@ -112,6 +114,34 @@ same-low (x ∷ memory) zero byte e zero = e
 same-low (x ∷ memory) zero byte e (suc p) = refl
 same-low (x ∷ memory) (suc place) byte e zero = refl
 same-low (x ∷ memory) (suc place) byte e (suc p) = same-low memory place byte e p
+
+-- a byte of screen memory that rows read only as the high byte of their link, and that stays so modulo 16
+module _ (c : Chain) (place byte : ℕ) (low : byte % 16 ≡ getD (c .screen) place 0 % 16) where
+  abbrev new-screen : List ℕ
+  new-screen = set (c .screen) place byte
+
+  abbrev new-chain : Chain
+  new-chain = chain (c .columns) new-screen (c .attribute)
+
+  row-reads-alike : (row : Row) → among place (readAheadOfHigh c row) ≡ false → ReadAlike c new-chain row
+  unfolding byteAt readAheadOfHigh lowFour screenRead
+  row-reads-alike row only = record { columns = refl; screen = ahead row only; high = high row; attribute = refl }
+    where
+      ahead : (one : Row) → Leaves (c .screen) place byte (readAheadOfHigh c one)
+      ahead (Whole head cells) = from-leaves (c .screen) place byte (head .start) (cells + 2)
+      ahead (Torn head) = from-leaves (c .screen) place byte (head .start) (capacity (c .columns) (head .kind) + 1)
+      ahead Dark = λ h. refl
+
+      high : (one : Row) → lowFour (c .screen) one ≡ lowFour new-screen one
+      high (Whole head cells) = sym (same-low (c .screen) place byte low ((head .start + cells + 2) % places))
+      high (Torn head) = refl
+      high Dark = refl
+
+  same-picture-but-top :
+      ((row : ℕ) → row < rows → among place (readAheadOfHigh c (rowAt c row)) ≡ false) → pictureOf new-chain ≡ pictureOf c
+  same-picture-but-top only =
+      same-records (recordAt new-chain) (recordAt c) rows
+      (records-are-what-the-rows-read c new-chain rows (λ row h. row-reads-alike (rowAt c row) (only row h)))
 
 module _
     (m : Machine)
@@ -209,3 +239,8 @@ upper-bits-mark-nothing m shared screen attribute picture address byte place t s
     none-marked-where m shared screen attribute picture address byte t (refused m shared screen attribute picture address byte t) refl
     (λ _. rw seen
     (same-picture (chainOf m screen attribute) (set attribute place byte) (λ p. same-low attribute place byte low (p % places))))
+
+pub top-bits-mark-nothing : TopBitsMarkNothing
+top-bits-mark-nothing m shared screen attribute picture address byte place t seen low only =
+    none-marked-where m shared screen attribute picture address byte t (refused m shared screen attribute picture address byte t) refl
+    (λ _. rw seen (same-picture-but-top (chainOf m screen attribute) place byte low only))

@@ -90,12 +90,13 @@ pub fn list_afresh(desk: Desk, beyond: usize, screen: &[u8], attribute: &[u8]) {
     let mut text = [0u8; listing::TEXT_BYTES];
     let a = desk::cut(desk, desk::SCREEN, screen);
     let b = desk::cut(desk, desk::ATTRIBUTE, attribute);
-    let bytes = listing::list_rows(
+    let listed = listing::list_rows(
         &screen[0..a],
         &attribute[0..b],
         beyond,
         &mut picture,
         &mut text,
     );
+    let bytes = listed.bytes;
     say::text(&text[0..bytes]);
 }

@@ -9,14 +9,24 @@ use commands::Command;
 use machine::Machine;
 use picture::Drawn;
 
+fn say_wild(answer: Drawn) {
+    if answer.wild {
+        say::number(b", first wild row: ", answer.wild_row as usize);
+        return;
+    }
+    say::text(b", no wild row named");
+}
+
 fn say_drawn(answer: Drawn) {
     if answer.refusal != lent::ACCEPTED {
         say::number(b"refused ", answer.refusal as usize);
         say::number(b", bytes read ", answer.reads as usize);
+        say_wild(answer);
         say::because(answer.refusal);
         return;
     }
     say::number(b"drawn, bytes read: ", answer.reads as usize);
+    say_wild(answer);
     say::text(b"\n");
 }
 

@@ -1,5 +1,7 @@
 pub mod Picture
+pub mod Wild
 pub mod Draw
+pub mod Named
 pub mod Counted
 pub mod Sizes
 pub mod Alike

@@ -5,19 +5,75 @@ ghost use mathlib.Core.Path.{_≡_};
 ghost use lib.ListN.{length};
 ghost use Rattle.lent.specs.Lengths.{screenBytes, attributeBytes, pictureBytes};
 ghost use Rattle.chain.specs.Chain.{chain};
-ghost use Rattle.chain.specs.Reading.{walkReads};
 ghost use Rattle.records.specs.Record.{recordPairs};
 ghost use Rattle.picture.specs.Picture.{pictureOf};
-ghost use Rattle.picture.specs.Draw.{lengthsPicture, drawn, draw};
+ghost use Rattle.picture.specs.Wild.{named};
+ghost use Rattle.picture.specs.Draw.{lengthsPicture, refusedAnswer, acceptedAnswer, answerOf, drawn, draw};
 use chain::Ahead;
 use chain::Head;
 use machine::Machine;
 
-// The answer of the drawing call: the bytes of screen memory that the walk read.
+// The answer of the drawing call: the bytes of screen memory that the walk read, whether the link of any row is wild,
+// and the first such row, or 0.
 #[repr(C)]
 pub struct Drawn {
     pub refusal: u8,
     pub reads: u16,
+    pub wild: bool,
+    pub wild_row: u8,
+}
+
+// The first row whose link is wild.
+pub enum FirstWild {
+    Named(u8),
+    NoRow,
+}
+
+impl Drawn {
+    // The answer of a drawing that is refused: no byte read, no row named.
+    pub fn refused(refusal: u8) -> Drawn
+        ensures { λ r. ⌜ r ≡ refusedAnswer refusal ⌝ }
+    {
+        Drawn {
+            refusal,
+            reads: 0,
+            wild: false,
+            wild_row: 0,
+        }
+    }
+
+    // The answer of a drawing that is not.
+    fn accepted(reads: u16, wild: FirstWild) -> Drawn
+        ensures { λ r. ⌜ r ≡ acceptedAnswer reads wild ⌝ }
+    {
+        match wild {
+            FirstWild::Named(row) => Drawn {
+                refusal: lent::ACCEPTED,
+                reads,
+                wild: true,
+                wild_row: row,
+            },
+            FirstWild::NoRow => Drawn {
+                refusal: lent::ACCEPTED,
+                reads,
+                wild: false,
+                wild_row: 0,
+            },
+        }
+    }
+}
+
+// Names a row that is wild, unless one before it is named.
+fn name(before: FirstWild, row: u8, wild: bool) -> FirstWild
+    ensures { λ r. ⌜ r ≡ named before row wild ⌝ }
+{
+    if !wild {
+        return before;
+    }
+    match before {
+        FirstWild::Named(first) => FirstWild::Named(first),
+        FirstWild::NoRow => FirstWild::Named(row),
+    }
 }
 
 fn lengths_picture(screen: usize, attribute: usize, picture: usize) -> bool
@@ -33,27 +89,29 @@ fn lengths_picture(screen: usize, attribute: usize, picture: usize) -> bool
     )
 }
 
-fn draw_rows(columns: usize, screen: &[u8], attribute: &[u8], picture: &mut [u8]) -> usize
+fn draw_rows(columns: usize, screen: &[u8], attribute: &[u8], picture: &mut [u8]) -> Drawn
     requires { ⌜ length (now screen) ≡ screenBytes ⌝ }
     requires { ⌜ length (now attribute) ≡ attributeBytes ⌝ }
     requires { ⌜ length (now picture) ≡ pictureBytes ⌝ }
     requires { ⌜ columns ≤ recordPairs ⌝ }
-    ensures { λ r. ⌜ r ≡ walkReads (chain columns (now (screen .entry)) (now (attribute .entry))) ⌝ }
+    ensures { λ r. ⌜ r ≡ answerOf (chain columns (now (screen .entry)) (now (attribute .entry))) ⌝ }
     ensures { λ _. ⌜ now (picture .exit)
         ≡ pictureOf (chain columns (now (screen .entry)) (now (attribute .entry))) ⌝ }
 {
     let mut ahead = Ahead::Row(Head::first());
     let mut reads = 0;
+    let mut wild = FirstWild::NoRow;
     let mut row = 0;
     while row < chain::ROWS {
         let at = row * records::RECORD_BYTES;
         let end = at + records::RECORD_BYTES;
         let walked = records::draw_ahead(columns, screen, attribute, ahead, &mut picture[at..end]);
         reads += walked.reads;
+        wild = name(wild, row as u8, walked.wild);
         ahead = walked.next;
         row += 1;
     }
-    reads
+    Drawn::accepted(reads as u16, wild)
 }
 
 // Draws the picture afresh from screen and attribute memory.
@@ -62,14 +120,7 @@ pub fn draw(machine: Machine, screen: &[u8], attribute: &[u8], picture: &mut [u8
         ≡ draw machine (now (screen .entry)) (now (attribute .entry)) (now (picture .entry)) ⌝ }
 {
     if !lengths_picture(screen.len(), attribute.len(), picture.len()) {
-        return Drawn {
-            refusal: lent::LENGTH,
-            reads: 0,
-        };
+        return Drawn::refused(lent::LENGTH);
     }
-    let reads = draw_rows(machine.columns(), screen, attribute, picture) as u16;
-    Drawn {
-        refusal: lent::ACCEPTED,
-        reads,
-    }
+    draw_rows(machine.columns(), screen, attribute, picture)
 }

@@ -9,7 +9,7 @@ use machine::Machine;
 use machine::Written;
 
 // RAINBOW_VERSION of the header.
-const VERSION: u32 = 2;
+const VERSION: u32 = 3;
 
 // The version of the header that this archive was made for.
 #[no_mangle]

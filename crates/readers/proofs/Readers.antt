@@ -3,11 +3,10 @@ use Prim.Native.Nat.{ℕ, zero, suc, _+_, _≤_, _<_}
 use mathlib.Core.Path.{_≡_, refl, _∙_}
 use mathlib.Core.Bool.{Bool, true, false, cond, true≢false}
 use native.Mathlib.Omega.{arith}
-use lib.Dec.{eqb}
-use borrow.Author.Tests.{eqb-true, eqb-false}
 use Rattle.memories.specs.declared.view8088.Seen.{Seen}
 use Rattle.memories.specs.declared.view8088.Seen.the-variants.{Shared, Screen, Attribute, Nowhere}
 use Rattle.chain.specs.Chain.{Chain, Row, rows, rowAt}
+use Rattle.chain.proofs.Laws.{one-and-later}
 use Rattle.readers.specs.Readers.{rowReads, firstFrom, IsFirst}
 use Rattle.readers.specs.Inner.{onScreen}
 
@@ -41,15 +40,9 @@ module _ (c : Chain) (seen : Seen) where
           (b : Bool) → rowReads c seen (rowAt c row) ≡ b → First (row + 1) (row + 1 + more) (firstFrom c seen (row + 1) more)
           → First row (row + suc more) (cond b row (firstFrom c seen (row + 1) more))
       go true h later = (omega arith, (omega arith, (λ g. h, λ r k g. absurd (omega arith))))
-      go false h later = (omega (arith, later .0), (omega (arith, later .1 .0), (λ g. later .1 .1 .0 (omega arith), λ r k g. one r (eqb r row) refl k g)))
-        where
-          one :
-              (r : ℕ) (b : Bool) → eqb r row ≡ b → row ≤ r → r < firstFrom c seen (row + 1) more
-              → rowReads c seen (rowAt c r) ≡ false
-          one r true same k g = rw (eqb-true r row same) h
-          one r false other k g =
-              let apart : (r ≡ row → ⊥) = eqb-false r row other in
-              later .1 .1 .1 r (omega (arith, apart)) g
+      go false h later =
+          let none = one-and-later (λ (r : ℕ). rowReads c seen (rowAt c r) ≡ false) row _ h (later .1 .1 .1) in
+          (omega (arith, later .0), (omega (arith, later .1 .0), (λ g. later .1 .1 .0 (omega arith), none)))
 
 pub is-first : IsFirst
 is-first c seen = let f = first-from c seen 0 rows in (f .1 .0, (f .1 .1 .0, λ row. f .1 .1 .1 row (omega arith)))

@@ -3,7 +3,7 @@ use Prim.Native.Nat.{ℕ, zero, suc, _+_, _%_, _<_}
 use mathlib.Core.Path.{_≡_, refl, sym, ap, _∙_, subst}
 use mathlib.Core.List.{List, _++_, map-append}
 use mathlib.Core.Bool.{Bool, true, false, true≢false}
-use native.Mathlib.Nat.{mod-mod}
+use native.Mathlib.Nat.{mod-mod, add-assoc}
 use native.Mathlib.Omega.{arith}
 use lib.ListN.{getD, set}
 use lib.Seq.{getD-set-other, set-set, set-getD}
@@ -13,9 +13,9 @@ use Rattle.memories.specs.declared.view8088.Seen.{Seen}
 use Rattle.memories.specs.declared.view8088.Seen.the-variants.{Shared, Screen, Attribute, Nowhere}
 use Rattle.chain.specs.Chain.{Chain, Row, Whole, Torn, Dark, places, byteAt, capacity, rowAt}
 use Rattle.chain.specs.Reading.{from, screenRead, attributeRead}
-use Rattle.chain.specs.Alike.{bytesAt}
+use Rattle.chain.specs.Alike.{bytesAt, readAheadOfHigh, lowFour}
 use Rattle.chain.proofs.Searching.{neither}
-use Rattle.chain.proofs.Alike.{rows-are-what-they-read}
+use Rattle.chain.proofs.Alike.{each-alike, shorter-alike, rows-are-what-they-read}
 use Rattle.readers.specs.Readers.{among, rowReads, firstReader}
 use Rattle.readers.specs.Stored.{chainStored, UnreadLeaves, EitherWalk}
 use Rattle.readers.proofs.Readers.{is-first}
@@ -23,10 +23,10 @@ use Rattle.readers.proofs.Laws.{among-both}
 
 module _ (memory : List ℕ) (place byte : ℕ) where
   -- a memory reads alike at these places where the place that is stored to is none of them
-  abbrev Leaves : List ℕ → Type 0
+  abbrev pub Leaves : List ℕ → Type 0
   Leaves places = among place places ≡ false → bytesAt memory places ≡ bytesAt (set memory place byte) places
 
-  from-leaves : (at n : ℕ) → Leaves (from at n)
+  pub from-leaves : (at n : ℕ) → Leaves (from at n)
   unfolding from among byteAt
   from-leaves at zero = λ unread. refl
   from-leaves at (suc n) = go (eqb place (at % places)) refl (from-leaves (at + 1) n)
@@ -50,17 +50,29 @@ stood (Attribute place) c = getD (c .attribute) place 0
 stood Nowhere c = 0
 
 pub unread-leaves : UnreadLeaves
-unfolding screenRead attributeRead
-unread-leaves c (Shared place) byte shared row unread = record { columns = refl; screen = refl; attribute = refl }
+unfolding readAheadOfHigh lowFour screenRead attributeRead
+unread-leaves c (Shared place) byte shared row unread = record { columns = refl; screen = refl; high = refl; attribute = refl }
 unread-leaves c (Screen place) byte shared row unread =
-    record { columns = refl; screen = go row unread; attribute = refl }
+    let both = go row unread in
+    record { columns = refl; screen = both .0; high = both .1; attribute = refl }
   where
-    go : (row : Row) → Leaves (c .screen) place byte (screenRead c row)
-    go (Whole head cells) = from-leaves (c .screen) place byte (head .start) (cells + 3)
-    go (Torn head) = from-leaves (c .screen) place byte (head .start) (capacity (c .columns) (head .kind) + 1)
-    go Dark = λ h. refl
+    new : List ℕ
+    new = set (c .screen) place byte
+
+    go :
+        (row : Row) → among place (screenRead c row) ≡ false
+        → (bytesAt (c .screen) (readAheadOfHigh c row) ≡ bytesAt new (readAheadOfHigh c row))
+        × (lowFour (c .screen) row ≡ lowFour new row)
+    go (Whole head cells) h =
+        let start = head .start in
+        let all = from-leaves (c .screen) place byte start (cells + 3) h in
+        let last : cells + 3 ≡ suc (cells + 2) = omega arith in
+        let high = each-alike (c .screen) new start (cells + 3) all (cells + 2) (omega arith) in
+        (shorter-alike (c .screen) new start (cells + 2) (rw last at all), rw (add-assoc start cells 2, high))
+    go (Torn head) h = (from-leaves (c .screen) place byte (head .start) (capacity (c .columns) (head .kind) + 1) h, refl)
+    go Dark h = (refl, refl)
 unread-leaves c (Attribute place) byte shared row unread =
-    record { columns = refl; screen = refl; attribute = go row unread }
+    record { columns = refl; screen = refl; high = refl; attribute = go row unread }
   where
     go : (row : Row) → Leaves (c .attribute) place byte (attributeRead c row)
     go (Whole head cells) =
@@ -69,7 +81,7 @@ unread-leaves c (Attribute place) byte shared row unread =
         (from-leaves (c .attribute) place byte (head .start + cells + 1) 1)
     go (Torn head) = from-leaves (c .attribute) place byte (head .start) (capacity (c .columns) (head .kind))
     go Dark = λ h. refl
-unread-leaves c Nowhere byte shared row unread = record { columns = refl; screen = refl; attribute = refl }
+unread-leaves c Nowhere byte shared row unread = record { columns = refl; screen = refl; high = refl; attribute = refl }
 
 module _ (c : Chain) (seen : Seen) (byte : ℕ) (shared : List ℕ) where
   abbrev after : Chain

@@ -4,6 +4,7 @@ use mathlib.Core.Path.{_≡_, refl}
 use native.Mathlib.Omega.{arith}
 use Rattle.chain.specs.Chain.{Chain, Whole, Torn, Dark, byteAt, capacity}
 use Rattle.chain.specs.Reading.{from, screenRead, attributeRead}
+use Rattle.chain.specs.Alike.{readAheadOfHigh}
 use Rattle.chain.proofs.Alike.{each-alike, both-alike}
 use Rattle.records.specs.Record.{cellPairs, recordOf}
 use Rattle.records.specs.Alike.{RecordIsWhatItReads}
@@ -23,10 +24,10 @@ module _ (c d : Chain) (start : ℕ) where
       )
 
 pub record-is-what-it-reads : RecordIsWhatItReads
-unfolding recordOf cellPairs screenRead attributeRead
+unfolding recordOf cellPairs readAheadOfHigh screenRead attributeRead
 record-is-what-it-reads c d (Whole head n) alike =
     let start = head .start in
-    let screen = each-alike (c .screen) (d .screen) start (n + 3) (alike .screen) in
+    let screen = each-alike (c .screen) (d .screen) start (n + 2) (alike .screen) in
     let cells = both-alike (c .attribute) (d .attribute) start n (from (start + n + 1) 1) (alike .attribute) .0 in
     let attribute = each-alike (c .attribute) (d .attribute) start n cells in
     rw (cells-alike c d start n (λ i h. screen i (omega arith)) attribute)

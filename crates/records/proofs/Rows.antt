@@ -1,10 +1,13 @@
--- A row whose terminator was searched for: which row it is, its record, what it read and what it leads to.
+-- A row whose terminator was searched for: which row it is, its record, what it read, whether its link is wild and what
+-- it leads to.
 use Prim.Native.Nat.{ℕ, _+_, _≤_}
 use mathlib.Core.Path.{_≡_, sym, _∙_}
 use mathlib.Core.List.{List}
+use mathlib.Core.Bool.{false}
 use native.Mathlib.Omega.{arith}
 use Rattle.chain.specs.Chain.{Chain, capacity, ended, rowFrom}
 use Rattle.chain.specs.Reading.{reads}
+use Rattle.chain.specs.Wild.{wild}
 use Rattle.chain.specs.declared.Head.{Head}
 use Rattle.chain.specs.declared.Terminator.{Terminator}
 use Rattle.chain.specs.declared.Terminator.the-variants.{After, Missing}
@@ -32,8 +35,8 @@ module _
   row = row-found c head is (f .answer)
 
   module _ (torn : t ≡ Missing) where
-    pub torn-walked : record { reads = cap + 1; next = Dark } ≡ walked c (Row head)
-    unfolding reads
+    pub torn-walked : record { reads = cap + 1; wild = false; next = Dark } ≡ walked c (Row head)
+    unfolding reads wild
     torn-walked = rw (row, torn, is)
 
     pub torn-drawn : finished head tornCount cap drawn ≡ drawnAhead c (Row head)
@@ -42,7 +45,7 @@ module _
 
   module _ {n : ℕ} (whole : t ≡ After n) where
     pub whole-walked : wholeWalked (c .screen) (c .attribute) head n ≡ walked c (Row head)
-    unfolding reads
+    unfolding reads wild
     whole-walked = rw (row, whole)
 
     pub whole-drawn : finished head n n drawn ≡ drawnAhead c (Row head)

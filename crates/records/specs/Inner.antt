@@ -5,6 +5,7 @@ use mathlib.Core.List.{List, _++_}
 use lib.ListN.{length, take, drop}
 use Rattle.chain.specs.Chain.{Chain, firstFF, link}
 use Rattle.chain.specs.Reading.{reads}
+use Rattle.chain.specs.Wild.{wildLink, wild}
 use Rattle.chain.specs.Inner.{rowAhead, aheadAfter}
 use Rattle.chain.specs.declared.Head.{Head}
 use Rattle.chain.specs.declared.Terminator.{Terminator}
@@ -40,14 +41,21 @@ abbrev pub finished : Head → (count cells : ℕ) → (drawn : List ℕ) → Li
 finished head count cells drawn =
     header head count ++ (take (2 * cells) (pairsOf drawn) ++ fillPairs (recordPairs - cells))
 
--- what a whole row has read, and what it leads to
+-- what a whole row has read, whether its link is wild, and what it leads to
 abbrev pub wholeWalked : (screen attribute : List ℕ) → Head → (cells : ℕ) → Walked
 wholeWalked screen attribute head cells =
-    record { reads = cells + 3; next = Row (link screen attribute (head .start + cells)) }
+    record {
+      reads = cells + 3;
+      wild = wildLink screen (head .start + cells);
+      next = Row (link screen attribute (head .start + cells));
+    }
 
--- what the row that lies ahead has read, and what it leads to
+-- of the row that lies ahead: what it has read, whether its link is wild (02, ticket 1: "The reading of one row should
+-- now also say" so), and what it leads to
 abbrev pub walked : Chain → Ahead → Walked
-walked c ahead = record { reads = reads c (rowAhead c ahead); next = aheadAfter c (rowAhead c ahead) }
+walked c ahead =
+    let row = rowAhead c ahead in
+    record { reads = reads c row; wild = wild c row; next = aheadAfter c row }
 
 -- the record of the row that lies ahead
 abbrev pub drawnAhead : Chain → Ahead → List ℕ

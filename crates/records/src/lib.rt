@@ -29,9 +29,11 @@ pub const TORN: u8 = 255;
 
 pub const DARK: u8 = 254;
 
-// A row that was walked: the bytes of screen memory that it read, and what the chain leads to.
+// A row that was walked: the bytes of screen memory that it read, whether its link is wild, and what the
+// chain leads to.
 pub struct Walked {
     pub reads: usize,
+    pub wild: bool,
     pub next: Ahead,
 }
 
@@ -151,10 +153,13 @@ fn end_row(screen: &[u8], attribute: &[u8], head: Head, cells: usize, into: &mut
     ensures { λ r. ⌜ r ≡ wholeWalked (now (screen .entry)) (now (attribute .entry)) head cells ⌝ }
     ensures { λ _. ⌜ now (into .exit) ≡ finished head cells cells (now (into .entry)) ⌝ }
 {
-    let next = chain::link(screen, attribute, head.start + cells);
+    let place = head.start + cells;
+    let next = chain::link(screen, attribute, place);
+    let wild = chain::is_wild(screen, place);
     finish(into, head, cells as u8, cells);
     Walked {
         reads: cells + 3,
+        wild,
         next: Ahead::Row(next),
     }
 }
@@ -175,6 +180,7 @@ fn draw_row(columns: usize, screen: &[u8], attribute: &[u8], head: Head, into: &
         finish(into, head, TORN, capacity);
         return Walked {
             reads: capacity + 1,
+            wild: false,
             next: Ahead::Dark,
         };
     };
@@ -203,6 +209,7 @@ pub fn draw_ahead(
             finish(into, Head::first(), DARK, 0);
             Walked {
                 reads: 0,
+                wild: false,
                 next: ahead,
             }
         }

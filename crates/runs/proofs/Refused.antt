@@ -26,7 +26,7 @@ use Rattle.picture.specs.Draw.{refusalDrawing, DrawnPicture}
 use Rattle.mending.specs.Store.{StoredWithPicture, refusalWithPicture}
 use Rattle.glyphs.specs.Glyphs.{glyphPart, partRefusal}
 use Rattle.scan_line.specs.Call.{refusalLine, DrawnLine}
-use Rattle.runs.specs.World.{Shared, Private, Screen, Attribute, Glyphs, Nvm, Shadow, Picture, Line, World, withMachine, withBytes, readAnswer, Read8088, Store8088, ReadZ80, StoreZ80, ReadShadow, WriteShadow, WritePort, VerticalTick, Draw, StoreWithPicture, GlyphPart, DrawLine}
+use Rattle.runs.specs.World.{Shared, Private, Screen, Attribute, Glyphs, Nvm, Shadow, Picture, Line, World, withMachine, withBytes, readAnswer, drawnAnswer, Read8088, Store8088, ReadZ80, StoreZ80, ReadShadow, WriteShadow, WritePort, VerticalTick, Draw, StoreWithPicture, GlyphPart, DrawLine}
 use Rattle.runs.specs.Refused.{AllZero, ChangesNothing}
 use Rattle.runs.proofs.Worlds.{with-own, left8088, none-stored}
 
@@ -128,12 +128,12 @@ changes-nothing (WritePort p k) w h = (port-kept w p k h, tt)
 changes-nothing VerticalTick w h = absurd (h refl)
 changes-nothing Draw w h =
     either Kept (refuses (refusalDrawing (w .bytes Screen) (w .bytes Attribute) (w .bytes Picture))) _ _
-    (λ _ g. (with-own Picture (w .bytes Picture) w refl, (refl, tt))) (λ _ g. absurd (g refl)) h
+    (λ _ g. (with-own Picture (w .bytes Picture) w refl, (refl, (refl, (refl, tt))))) (λ _ g. absurd (g refl)) h
   where
     Kept : DrawnPicture → Type 0
     Kept left =
         (left .answer .refusal ≡ accepted → ⊥)
-        → (withBytes Picture (left .picture) w ≡ w) × AllZero (left .answer .reads ∷ [])
+        → (withBytes Picture (left .picture) w ≡ w) × AllZero (drawnAnswer (left .answer) .numbers)
 changes-nothing (StoreWithPicture a b) w h =
     either Kept (refuses (refusalWithPicture (w .bytes Shared) (w .bytes Screen) (w .bytes Attribute) (w .bytes Picture) a)) _ _
     (λ _ g. (

@@ -21,11 +21,10 @@ use Rattle.shadow.specs.Shadow.{refusalShadow, WrittenShadow, writeShadow}
 use Rattle.diagnostic.specs.Diagnostic.{WrittenPort}
 use Rattle.ports.specs.Ports.{writePort}
 use Rattle.picture.specs.Draw.{refusalDrawing, refuseDrawing, DrawnPicture, draw}
-use Rattle.picture.specs.declared.Drawn.{Drawn}
 use Rattle.mending.specs.Mending.{marksOf}
 use Rattle.mending.proofs.Outcome.{accepts}
 use Rattle.scan_line.specs.Call.{refusalLine, DrawnLine, drawLine}
-use Rattle.runs.specs.World.{Memory, Shared, Private, Screen, Attribute, Glyphs, Nvm, Shadow, Picture, Line, isMemory, World, withMachine, withBytes, answered, Read8088, Store8088, ReadZ80, StoreZ80, ReadShadow, WriteShadow, WritePort, VerticalTick, Draw, StoreWithPicture, GlyphPart, DrawLine, after, answer}
+use Rattle.runs.specs.World.{Memory, Shared, Private, Screen, Attribute, Glyphs, Nvm, Shadow, Picture, Line, isMemory, World, withMachine, withBytes, answered, drawnAnswer, Read8088, Store8088, ReadZ80, StoreZ80, ReadShadow, WriteShadow, WritePort, VerticalTick, Draw, StoreWithPicture, GlyphPart, DrawLine, after, answer}
 use Rattle.runs.specs.Reach.{Part, TheMachine, Below0800, From0800, AllOf, has, hasMemory, Same, Alike, SeesOnly}
 use Rattle.runs.proofs.Worlds.{is-memory, storedIn, refused8088, store-refused, store-accepted, refusedZ80, z80-refused, z80-private, z80-shared, not-below, mendedIn, refusedWithPicture, picture-refused, picture-accepted}
 use Rattle.runs.proofs.Reach.{same-by}
@@ -285,7 +284,7 @@ sees-only Draw w v c =
     let screen = c .seen (AllOf Screen) refl in
     let attribute = c .seen (AllOf Attribute) refl in (
       rw (m, screen, attribute)
-          (ap (λ (d : Drawn). answered (d .refusal) (d .reads ∷ []))
+          (ap drawnAnswer
           (drawing-alike (v .machine) (v .bytes Screen) (v .bytes Attribute) (w .bytes Picture) (v .bytes Picture) (c .lengths Picture refl))),
       with-alike Picture _ _ w v (λ e. rw (m, screen, attribute, e)) refl,
     )

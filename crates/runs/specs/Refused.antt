@@ -1,5 +1,5 @@
 -- Document 01, "Numbers of refusal": "A refusal returns its number, with byte read, marks, read count and all other
--- numbers 0 ..; all buffers and the machine stay."
+-- numbers 0, no row named and a part of no bytes; all buffers and the machine stay."
 use Prim.Native.Nat.{ℕ}
 use mathlib.Core.Path.{_≡_}
 use mathlib.Core.List.{List, [], _∷_}

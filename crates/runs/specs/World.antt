@@ -12,6 +12,7 @@ use Rattle.memories.specs.ViewZ80.{readZ80, storeZ80}
 use Rattle.shadow.specs.Shadow.{readShadow, writeShadow}
 use Rattle.ports.specs.Ports.{writePort}
 use Rattle.picture.specs.Draw.{draw}
+use Rattle.picture.specs.declared.Drawn.{Drawn}
 use Rattle.mending.specs.Store.{storeWithPicture}
 use Rattle.glyphs.specs.Glyphs.{glyphPart, partRefusal}
 use Rattle.scan_line.specs.Call.{drawLine}
@@ -71,8 +72,8 @@ pub data Call : Type 0 where
   GlyphPart : (code : ℕ) → Call
   DrawLine : (row scan : ℕ) → Call
 
--- what a call answers: its number of refusal, and its other numbers: the byte read, the bytes that the walk read, the
--- marks, the bytes of a part
+-- what a call answers: its number of refusal, and its other numbers: the byte read, the bytes that the walk read, whether
+-- a row is wild and the first that is, the marks, the bytes of a part
 pub record Answer : Type 0 where
   pub refusal : ℕ
   pub numbers : List ℕ
@@ -82,6 +83,10 @@ answered refusal numbers = record { refusal = refusal; numbers = numbers }
 
 abbrev pub readAnswer : ByteRead → Answer
 readAnswer read = answered (read .refusal) (read .byte ∷ [])
+
+abbrev pub drawnAnswer : Drawn → Answer
+drawnAnswer drawn =
+    answered (drawn .refusal) (drawn .reads ∷ cond (drawn .wild) 1 0 ∷ drawn .«wild_row» ∷ [])
 
 -- what a call answers, and the world that it leaves
 pub record Outcome : Type 0 where
@@ -113,7 +118,7 @@ outcome (WritePort port code) w =
 outcome VerticalTick w = leaving (answered accepted []) (withMachine (verticalTick (w .machine)) w)
 outcome Draw w =
     let left = draw (w .machine) (w .bytes Screen) (w .bytes Attribute) (w .bytes Picture) in
-    leaving (answered (left .answer .refusal) (left .answer .reads ∷ [])) (withBytes Picture (left .picture) w)
+    leaving (drawnAnswer (left .answer)) (withBytes Picture (left .picture) w)
 outcome (StoreWithPicture address byte) w =
     let left =
     storeWithPicture (w .machine)

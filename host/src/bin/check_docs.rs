@@ -34,14 +34,15 @@ fn files(root: &Path, folder: &str, ending: &str) -> Vec<PathBuf> {
     files
 }
 
-/// README.md and every document, with its text.
+/// README.md and every document, those of the tickets too, with its text.
 fn documents(root: &Path) -> Vec<(String, String)> {
-    let folder = fs::read_dir(root.join("docs")).into_iter().flatten();
-    let names = folder.flatten().map(|file| file.file_name());
-    let mut names: Vec<String> = names
-        .map(|name| format!("docs/{}", name.to_string_lossy()))
-        .filter(|name| name.ends_with(".md"))
-        .collect();
+    let of_folder = |folder: &'static str| {
+        let files = fs::read_dir(root.join(folder)).into_iter().flatten();
+        let names = files.flatten().map(|file| file.file_name());
+        names.map(move |name| format!("{folder}/{}", name.to_string_lossy()))
+    };
+    let names = ["docs", "docs/tickets"].into_iter().flat_map(of_folder);
+    let mut names: Vec<String> = names.filter(|name| name.ends_with(".md")).collect();
     names.push("README.md".to_string());
     names.sort();
     let with_text = |name: String| (name.clone(), read(&root.join(name)));

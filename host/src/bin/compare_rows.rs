@@ -1,6 +1,6 @@
-//! Runs the row lister on many screens and compares what it prints with the model.
+//! Runs the row lister on many screens and compares what it prints, and tells on standard error, with the model.
 //! usage: compare_rows LISTER [SCREENS]
-use host::chain::listing;
+use host::chain::{listing, listing_told};
 use host::hard::{memories, written, Chance};
 use std::process::exit;
 
@@ -33,26 +33,30 @@ fn main() -> std::io::Result<()> {
         }
     };
     let mut chance = Chance(0x9E3779B97F4A7C15);
-    let (mut torn, mut whole, mut refused) = (0, 0, 0);
+    let (mut torn, mut whole, mut refused, mut wild) = (0, 0, 0, 0);
     for screen in 0..screens {
         let input = plain(screen).unwrap_or_else(|| input(&mut chance));
-        let wanted = listing(&input);
-        let (text, _) = written(lister, &[], &input, &mut chance)?;
-        if text != wanted.as_bytes() {
+        let (wanted, wanted_told) = (listing(&input), listing_told(&input));
+        let (text, told) = written(lister, &[], &input, &mut chance)?;
+        if text != wanted.as_bytes() || told != wanted_told {
             std::fs::write("differs.bin", &input)?;
             println!("screen {screen} differs; its input is in differs.bin");
             println!(
-                "wanted:\n{wanted}printed:\n{}",
+                "wanted:\n{wanted}{wanted_told}printed:\n{}{told}",
                 String::from_utf8_lossy(&text)
             );
             exit(1);
         }
+        wild += usize::from(!told.is_empty());
         match &wanted {
             text if text.starts_with("refused") => refused += 1,
             text if text.contains("torn") => torn += 1,
             _ => whole += 1,
         }
     }
-    println!("{screens} screens, no difference: {whole} whole, {torn} with a torn row, {refused} refused");
+    println!(
+        "{screens} screens, no difference: {whole} whole, {torn} with a torn row, {refused} refused; {wild} with a \
+         wild link"
+    );
     Ok(())
 }

@@ -1,4 +1,5 @@
 //! Makes calls of a library and compares each with the model. See --help.
+use host::chain::ROWS;
 use host::load::{load, Fault, Tally, Tried, FAULTS};
 use host::rainbow::{Library, FUNCTIONS};
 use std::process::exit;
@@ -88,6 +89,12 @@ fn print_tally(tally: &Tally, seconds: f64) {
     for (number, calls) in tally.refusals.iter().enumerate().skip(1) {
         println!("refused by {number:<9}{calls:>9}");
     }
+    let (drawings, last) = (&tally.drawings, ROWS - 1);
+    let middle = format!("wild: row 1 to {}", last - 1);
+    println!("{:<20}{:>9}", "wild: row 0", drawings[0]);
+    println!("{middle:<20}{:>9}", drawings[1..last].iter().sum::<u64>());
+    println!("wild: row {last:<10}{:>9}", drawings[last]);
+    println!("{:<20}{:>9}", "wild: no row", drawings[ROWS]);
 }
 
 fn main() {

@@ -103,6 +103,12 @@ pub fn store(chance: &mut Chance, model: &Model) -> (u32, u8) {
         5 => chance.below(16) as u8,
         _ => chance.byte(),
     };
+    // The high byte of a link, as far as can be told here, is most often left tame, so that rows far down, or none, are
+    // the first whose links are wild.
+    let ends = model.view.screen[(place + PLACES - 2) % PLACES] == 0xFF;
+    if address >> 12 == 0xEE && ends && byte != 0xFF && chance.below(4) > 0 {
+        return (address, byte & 0x0F);
+    }
     (address, byte)
 }
 

@@ -2,15 +2,15 @@
 use super::call::{Buffer, Call};
 use super::library::Library;
 use super::model::Model;
-use crate::chain::{PAIRS_AT, PICTURE, PLACES, RECORD, ROWS};
+use crate::chain::{wild_rows, PAIRS_AT, PICTURE, PLACES, RECORD, ROWS};
 use crate::machine::Machine;
-use crate::rainbow::Seen;
+use crate::rainbow::{Seen, Wild};
 
 /// Which fault is put in; 0 is none.
 #[derive(Clone, Copy, Debug, PartialEq, Eq)]
 pub struct Fault(pub usize);
 
-pub const FAULTS: [&str; 14] = [
+pub const FAULTS: [&str; 16] = [
     "row 0's link is taken high byte first",
     "row 23 is never marked",
     "the Z80's private memory ends a byte later",
@@ -25,6 +25,8 @@ pub const FAULTS: [&str; 14] = [
     "at 132 columns, 50 Hz, latch 9, reversed, blinking, with an interrupt, it is blanked",
     "the scroll latch is not taken modulo 16",
     "the second library has 1,187 dots in a line at 132 columns (with --against)",
+    "the last wild row is named",
+    "row 0 is named where no link is wild",
 ];
 
 impl Fault {
@@ -51,6 +53,10 @@ impl Fault {
             (7, Call::Draw) if seen.refusal == 0 => seen.value += 1,
             (12, Call::Blanked) if rare(&model.machine) => seen.value = 1,
             (13, Call::ScrollLatch) => seen.value = model.machine.latch.into(),
+            (15, Call::Draw) if seen.wild.there != 0 => seen.wild = last_wild(model),
+            (16, Call::Draw) if seen.refusal == 0 && seen.wild.there == 0 => {
+                seen.wild = Wild::named(0)
+            }
             _ => {}
         }
         seen
@@ -94,6 +100,12 @@ fn rare(machine: &Machine) -> bool {
     } = *machine;
     let flags = machine.reverse && machine.blink && machine.interrupt;
     (columns, hertz, latch) == (132, 50, 9) && flags
+}
+
+fn last_wild(model: &Model) -> Wild {
+    let (view, columns) = (&model.view, model.machine.columns.into());
+    let rows = wild_rows(&view.screen, &view.attribute, columns).unwrap_or_default();
+    rows.last().map_or(Wild::default(), |row| Wild::named(*row))
 }
 
 fn high_byte_first(model: &mut Model) -> Seen {

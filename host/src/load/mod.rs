@@ -1,5 +1,5 @@
-//! Drives a library and the model of document 01 with the same calls, and compares what each answers and every byte that
-//! each was lent.
+//! Drives a library and the model of document 01 with the same calls, and compares what each answers and every byte
+//! that each was lent.
 mod aim;
 mod call;
 mod choose;
@@ -17,20 +17,24 @@ pub use fault::{Fault, FAULTS};
 pub use shrink::Script;
 pub use sides::Tried;
 
+use crate::chain::ROWS;
 use crate::hard::Chance;
-use crate::rainbow::FUNCTIONS;
+use crate::rainbow::{Seen, FUNCTIONS};
 use crate::REFUSALS;
 use call::{Call, Step};
 use sides::Sides;
 use std::thread::spawn;
 use world::World;
 
-/// How many calls there were of each function, and how many were answered by each number of refusal.
+/// How many calls there were of each function, how many were answered by each number of refusal, and how many drawings
+/// named each row.
 #[derive(Default)]
 pub struct Tally {
     pub calls: [u64; FUNCTIONS.len()],
     /// By number; 0 is accepted.
     pub refusals: [u64; REFUSALS + 1],
+    /// By the row whose link is wild; the last are those that named none. Refused ones do not count.
+    pub drawings: [u64; ROWS + 1],
 }
 
 impl Tally {
@@ -38,11 +42,25 @@ impl Tally {
         self.calls.iter().sum()
     }
 
+    fn count(&mut self, call: &Call, answer: &Seen) {
+        let Some(function) = call.function() else {
+            return;
+        };
+        self.calls[function] += 1;
+        self.refusals[usize::from(answer.refusal)] += 1;
+        if let (Call::Draw | Call::DrawAfresh, 0) = (call, answer.refusal) {
+            let named = answer.wild.there != 0;
+            self.drawings[if named { answer.wild.row.into() } else { ROWS }] += 1;
+        }
+    }
+
     fn add(&mut self, other: &Self) {
         let calls = self.calls.iter_mut().zip(other.calls);
         calls.for_each(|(sum, calls)| *sum += calls);
         let refusals = self.refusals.iter_mut().zip(other.refusals);
         refusals.for_each(|(sum, refused)| *sum += refused);
+        let drawings = self.drawings.iter_mut().zip(other.drawings);
+        drawings.for_each(|(sum, drawn)| *sum += drawn);
     }
 }
 
@@ -70,10 +88,7 @@ impl<'a> Run<'a> {
     fn step(&mut self, step: Step) -> Result<(), Script> {
         self.steps.push(step);
         let answer = self.sides.step(&step).map_err(|_| self.script())?;
-        if let Some(function) = step.call.function() {
-            self.tally.calls[function] += 1;
-            self.tally.refusals[usize::from(answer.refusal)] += 1;
-        }
+        self.tally.count(&step.call, &answer);
         Ok(())
     }
 

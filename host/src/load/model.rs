@@ -3,11 +3,11 @@ use super::call::{Buffer, Call, Lengths, Step, BUFFERS};
 use super::fault::Fault;
 use super::library::guard;
 use super::seen::mirrored;
-use crate::chain::{self, PICTURE};
+use crate::chain::{self, Drawn, PICTURE};
 use crate::dots;
 use crate::machine::Machine;
 use crate::memories::{self, View8088};
-use crate::rainbow::{self, Seen};
+use crate::rainbow::{self, Seen, Wild};
 use crate::{mending, refusal, Answer};
 
 #[derive(Clone)]
@@ -27,6 +27,15 @@ fn seen<T: TryInto<u64>>(answer: Answer<T>) -> Seen {
     match answer {
         Ok(value) => Seen::value(value),
         Err(number) => Seen::refusal(number),
+    }
+}
+
+/// What a drawing answers: no row is named where no link is wild, nor where the call is refused.
+fn seen_drawn(answer: Answer<Drawn>) -> Seen {
+    let wild = answer.as_ref().map_or(None, |drawn| drawn.wild);
+    Seen {
+        wild: wild.map_or(Wild::default(), Wild::named),
+        ..seen(answer.map(|drawn| drawn.reads))
     }
 }
 
@@ -115,8 +124,8 @@ impl Model {
                 let written = self.machine.write(shadow, nvm, port, code);
                 Seen::machine(refusal(&written), mirrored(&self.machine))
             }
-            Call::Draw => seen(self.draw(Buffer::Picture)),
-            Call::DrawAfresh => seen(self.draw(Buffer::Spare)),
+            Call::Draw => seen_drawn(self.draw(Buffer::Picture)),
+            Call::DrawAfresh => seen_drawn(self.draw(Buffer::Spare)),
             Call::GlyphPart { code } => self.glyph_part(code),
             Call::ScanLine { row, scan } => {
                 let (machine, line) = (self.machine, &mut self.line);
@@ -154,7 +163,7 @@ impl Model {
         }
     }
 
-    fn draw(&mut self, into: Buffer) -> Answer<usize> {
+    fn draw(&mut self, into: Buffer) -> Answer<Drawn> {
         let columns = self.machine.columns.into();
         let drawn = chain::draw(&self.view.screen, &self.view.attribute, columns)?;
         let picture = self.bytes_mut(into);
@@ -162,7 +171,7 @@ impl Model {
             return Err(1);
         }
         picture.copy_from_slice(&drawn.picture);
-        Ok(drawn.reads)
+        Ok(drawn)
     }
 
     /// The part as the place that it has in the table.

@@ -10,6 +10,8 @@ impl Seen {
             ("refusal", self.refusal.into(), other.refusal.into()),
             (number, self.value, other.value),
             ("length", self.length, other.length),
+            ("wild flag", self.wild.there.into(), other.wild.there.into()),
+            ("wild row", self.wild.row.into(), other.wild.row.into()),
         ];
         let differs = numbers.iter().find(|(_, a, b)| a != b);
         if let Some((name, mine, theirs)) = differs {

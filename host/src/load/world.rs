@@ -52,6 +52,8 @@ struct Layer<'a> {
     laid: Vec<bool>,
     starts: Vec<usize>,
     free: usize,
+    /// Cells are under this.
+    under: usize,
 }
 
 impl Layer<'_> {
@@ -110,7 +112,7 @@ impl Layer<'_> {
             _ => self.chance.below(8) as u8,
         };
         for place in start..end {
-            let (cell, beside) = (self.chance.below(255) as u8, self.chance.byte());
+            let (cell, beside) = (self.chance.below(self.under) as u8, self.chance.byte());
             self.lay(place, cell, beside);
         }
         let any = self.chance.byte();
@@ -144,6 +146,14 @@ fn halves(bytes: &[u8]) -> (Vec<u8>, Vec<u8>) {
 
 /// A screen memory and an attribute memory.
 fn memories(chance: &mut Chance, kind: Kind, columns: usize) -> (Vec<u8>, Vec<u8>) {
+    let (mut screen, attribute) = memories_of(chance, kind, columns);
+    if kind != Kind::Blank {
+        hard::choose_wild(chance, &mut screen, &attribute, columns);
+    }
+    (screen, attribute)
+}
+
+fn memories_of(chance: &mut Chance, kind: Kind, columns: usize) -> (Vec<u8>, Vec<u8>) {
     let mut attribute = strewn(chance, PLACES);
     match kind {
         Kind::Blank => return (vec![0; PLACES], vec![0; PLACES]),
@@ -152,7 +162,9 @@ fn memories(chance: &mut Chance, kind: Kind, columns: usize) -> (Vec<u8>, Vec<u8
         Kind::HerdBook => return halves(&herd_book()),
         _ => {}
     }
-    let mut screen = strewn(chance, PLACES);
+    // Where bytes are under 16, an FF that is stored among them makes no link that is wild.
+    let under = chance.of(&[16, 255]);
+    let mut screen: Vec<u8> = (0..PLACES).map(|_| chance.below(under) as u8).collect();
     let every = match kind {
         Kind::ManyFF => 3,
         _ => chance.of(&[10, 25, 40, 80, 256]),
@@ -172,6 +184,7 @@ fn memories(chance: &mut Chance, kind: Kind, columns: usize) -> (Vec<u8>, Vec<u8
         laid: vec![false; PLACES],
         starts: Vec::new(),
         free: 0,
+        under,
     };
     (0..ROWS + 2).try_fold((0, 3), |at, _| layer.row(kind, columns, at));
     (screen, attribute)

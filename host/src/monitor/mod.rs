@@ -81,7 +81,7 @@ mod tests {
     fn calls_are_answered_in_words() {
         let lines: [(&str, &str); 14] = [
             ("store 5 41", "stored, marks 00000000\n"),
-            ("draw", "drawn, bytes read: 81"),
+            ("draw", "drawn, bytes read: 81, no wild row named\n"),
             ("store ee000 fF", "stored, marks 00FFFFFF 0 1 2 3"),
             ("read 10000", "refused 2, byte 00: the 8088 sees no memory"),
             ("bytes screen 4095 2", "bytes 00 00\n"),
@@ -117,7 +117,39 @@ mod tests {
         let lines: Vec<_> = heard.lines().collect();
         assert_eq!(lines[..4], ["lent", refused, refused, "lent"]);
         assert_eq!(lines[4], "reads 00");
-        assert_eq!(lines[7], "drawn, bytes read: 81");
+        assert_eq!(lines[7], "drawn, bytes read: 81, no wild row named");
+    }
+
+    /// "each drawing should name the first such row, or none"; of a refusal: "no row named".
+    #[test]
+    fn a_drawing_names_the_first_wild_row() {
+        let lines: [(&str, &str); 17] = [
+            ("draw", "drawn, bytes read: 81, no wild row named\n"),
+            ("put screen 0 FF", "put\n"),
+            ("put screen 2 01", "put\n"),
+            ("put screen 256 FF", "put\n"),
+            ("put screen 258 02", "put\n"),
+            ("draw", "drawn, bytes read: 47, no wild row named\n"),
+            ("store EE102 32", "stored, marks 00000000\n"),
+            ("draw", "drawn, bytes read: 47, first wild row: 1\n"),
+            ("store EE002 F1", "stored, marks 00000000\n"),
+            ("draw", "drawn, bytes read: 47, first wild row: 0\n"),
+            ("lend screen 4095", "lent\n"),
+            (
+                "draw",
+                "refused 1, bytes read 0, no wild row named: a memory lent at another length than its own\n",
+            ),
+            ("lend screen 4096", "lent\n"),
+            ("fill screen FF", "filled\n"),
+            ("draw", "drawn, bytes read: 72, first wild row: 0\n"),
+            ("list 0", "columns 80 reads 72\n0 0000 3 0\n1 0FFF 0 0\n"),
+            ("draw 1", "expected draw\n"),
+        ];
+        let mut session = Session::power_up();
+        for (line, begins) in lines {
+            let answer = String::from_utf8(session.answer(line.as_bytes())).unwrap();
+            assert!(answer.starts_with(begins), "{line}: {answer}");
+        }
     }
 
     #[test]

@@ -164,7 +164,7 @@ impl Session {
             return Err(1);
         }
         self.put_back(PICTURES, &drawn.picture);
-        Ok(format!("drawn, bytes read: {}", drawn.reads))
+        Ok(shown::drawn(&drawn))
     }
 
     fn store(&mut self, address: u32, byte: u8) -> Answer<String> {

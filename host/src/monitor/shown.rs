@@ -1,15 +1,16 @@
 //! The words of the answers.
 use super::lines::{FORMS, NAMES};
-use crate::chain::RECORD;
+use crate::chain::{Drawn, RECORD};
 use crate::machine::Machine;
 use crate::trial::summed;
 
-/// A refused call of a form. "A refusal returns its number, with byte read, marks, read count and all other numbers 0".
+/// A refused call of a form. "A refusal returns its number, with byte read, marks, read count and all other numbers 0,
+/// no row named".
 pub fn refused(form: &str, number: u8) -> String {
     let beside = match form.split(" H").next().unwrap_or(form) {
         "read" | "z80 read" | "shadow read DDDDD" => ", byte 00",
         "store" => ", marks 00000000",
-        "draw" => ", bytes read 0",
+        "draw" => ", bytes read 0, no wild row named",
         _ => "",
     };
     let words = match number {
@@ -41,6 +42,15 @@ pub fn machine(m: &Machine) -> String {
         bit(m.blanked()),
         bit(m.graphics()),
     )
+}
+
+/// What a drawing answers: the bytes read, and the first row whose link is wild.
+pub fn drawn(drawn: &Drawn) -> String {
+    let wild = match drawn.wild {
+        Some(row) => format!("first wild row: {row}"),
+        None => "no wild row named".to_string(),
+    };
+    format!("drawn, bytes read: {}, {wild}", drawn.reads)
 }
 
 pub fn marks(marks: u32) -> String {

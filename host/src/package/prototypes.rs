@@ -88,16 +88,18 @@ mod tests {
 
     #[test]
     fn a_function_and_a_struct() {
-        let text = "#[repr(C)]\npub struct ByteRead {\n    // 0 to 6.\n    pub refusal: u8,\n    pub at: usize,\n}\n\
+        let text = "#[repr(C)]\npub struct ByteRead {\n    // 0 to 6.\n    pub refusal: u8,\n    pub at: usize,\n    \
+                    pub wild: bool,\n}\n\
                     pub extern \"C\" fn rainbow_f(a: &[u8], b: &mut [u8], m: Machine) -> ByteRead\n{\n}\n\
                     pub extern \"C\" fn rainbow_g() -> u16\n{\n}\n";
         let made = file(&functions("a", text), &[("ByteRead", text)]);
         let head = "rainbow_byte_read rainbow_f(const uint8_t *, size_t, uint8_t *, size_t, rainbow_machine);\n\
                     uint16_t rainbow_g(void);\n";
         assert!(made.contains(head), "{made}");
-        assert!(
-            made.contains("struct source_byte_read {\n    uint8_t refusal;\n    size_t at;\n};\n")
-        );
+        assert!(made.contains(
+            "struct source_byte_read {\n    uint8_t refusal;\n    size_t at;\n    bool wild;\n};\n"
+        ));
+        assert!(made.contains("_Generic(((rainbow_byte_read *)0)->wild, bool: 1, default: 0)"));
         assert!(made
             .contains("offsetof(rainbow_byte_read, at) == offsetof(struct source_byte_read, at)"));
     }

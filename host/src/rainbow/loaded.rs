@@ -1,6 +1,6 @@
 //! A shared object: its functions by their names of C, and a call of each. Rust's own rules keep what the header asks
 //! of its caller: a slice is one buffer with its length, and one that may change overlaps no other.
-use super::{Lent, Machine, Request, Seen, FUNCTIONS};
+use super::{Lent, Machine, Request, Seen, Wild, FUNCTIONS};
 use std::ffi::{c_void, CStr, CString};
 use std::os::raw::{c_char, c_int};
 use std::ptr::null_mut;
@@ -30,6 +30,8 @@ struct Written {
 struct Drawn {
     refusal: u8,
     reads: u16,
+    wild: u8,
+    wild_row: u8,
 }
 
 #[repr(C)]
@@ -163,7 +165,13 @@ unsafe fn lending(
         "draw" => {
             let call = of!(at, (Machine, In, usize, In, usize, Out, usize) -> Drawn);
             let drawn = call(machine, a, a_len, b, b_len, c, c_len);
-            Seen::answer(drawn.refusal, drawn.reads)
+            Seen {
+                wild: Wild {
+                    there: drawn.wild,
+                    row: drawn.wild_row,
+                },
+                ..Seen::answer(drawn.refusal, drawn.reads)
+            }
         }
         "store_with_picture" => {
             let call = of!(at, (Machine, Out, usize, Out, usize, Out, usize, Out, usize, u32, u8) -> Stored);

@@ -46,13 +46,22 @@ pub const FUNCTIONS: [&str; 20] = [
 ];
 
 /// An answer. `value` is the one number that the call gives: the byte, the reads, the marks, the place, the
-/// columns, the dots, the version, or 1 for true. Only a glyph part has a length, and only some calls a machine.
+/// columns, the dots, the version, or 1 for true. Only a glyph part has a length, only a drawing has what it says of a
+/// wild link, and only some calls have a machine.
 #[derive(Clone, Copy, Debug, Default, PartialEq, Eq)]
 pub struct Seen {
     pub refusal: u8,
     pub value: u64,
     pub length: u64,
     pub machine: Machine,
+    pub wild: Wild,
+}
+
+/// What a drawing says of the first wild link: whether there is one, a byte as a bool of the machine is, and its row.
+#[derive(Clone, Copy, Debug, Default, PartialEq, Eq)]
+pub struct Wild {
+    pub there: u8,
+    pub row: u8,
 }
 
 /// A buffer that is lent; NULL with length 0 if there is none.
@@ -98,6 +107,16 @@ pub fn header_version() -> u32 {
     let version = lines.find_map(|line| line.strip_prefix("#define RAINBOW_VERSION "));
     let number = version.and_then(|version| version.trim().parse().ok());
     number.expect("rainbow.h defines RAINBOW_VERSION as a number")
+}
+
+impl Wild {
+    /// A row is named.
+    pub fn named(row: usize) -> Self {
+        Self {
+            there: 1,
+            row: row.try_into().expect("at most 8 bits"),
+        }
+    }
 }
 
 impl Seen {

@@ -1,6 +1,6 @@
 //! A library in a process of its own: host/serve.c, which is sent a call with the bytes that it is lent, makes it, and
 //! sends back the answer and those bytes. Each thread has a process.
-use super::{Machine, Request, Seen};
+use super::{Machine, Request, Seen, Wild};
 use std::cell::RefCell;
 use std::collections::HashMap;
 use std::io::{self, Read, Write};
@@ -57,7 +57,7 @@ impl Process {
             sent.extend(bytes);
         }
         self.to.write_all(&sent)?;
-        let mut answer = [0; 26];
+        let mut answer = [0; 28];
         self.from.read_exact(&mut answer)?;
         for bytes in request.lent.into_iter().flatten() {
             self.from.read_exact(bytes)?;
@@ -71,7 +71,11 @@ impl Process {
             refusal: answer[0],
             value: number(1),
             length: number(9),
-            machine: machine_of(&answer[17..]),
+            machine: machine_of(&answer[17..26]),
+            wild: Wild {
+                there: answer[26],
+                row: answer[27],
+            },
         })
     }
 }

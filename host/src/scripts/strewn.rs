@@ -8,8 +8,8 @@ pub fn script() -> Script {
     );
     drawn(&mut script);
     kept(&mut script);
-    for (columns, torn) in [(80, ROWS), (132, 17)] {
-        laid(&mut script, columns, torn);
+    for (columns, torn, wild) in [(80, ROWS, ROWS - 1), (132, 17, 9)] {
+        laid(&mut script, columns, torn, wild);
     }
     untrue(&mut script);
     script
@@ -51,9 +51,10 @@ fn kept(script: &mut Script) {
     }
 }
 
-/// A chain of all rows, each a few bytes after the one before, most of them full; one may be torn.
-fn lay(script: &mut Script, columns: usize, torn: usize) {
-    let (mut start, mut kind) = (0, 3);
+/// A chain of all rows, each a few bytes after the one before, most of them full; one may be torn. The links from a row
+/// on are wild. The answer is where the last row's high link byte is, and what it is.
+fn lay(script: &mut Script, columns: usize, torn: usize, wild: usize) -> (usize, u8) {
+    let (mut start, mut kind, mut last) = (0, 3, (0, 0));
     for row in 0..ROWS {
         let (n, m) = (script.next(), script.next());
         let most = capacity(columns, kind);
@@ -67,23 +68,36 @@ fn lay(script: &mut Script, columns: usize, torn: usize) {
         start = end + 3 + m % 3;
         kind = (m >> 2) as u8;
         let [low, high] = (start as u16).to_le_bytes();
-        let high = high | (m >> 10 << 4) as u8;
+        let rubbish = if row < wild { 0 } else { m >> 10 | 1 };
+        let high = high | (rubbish << 4) as u8;
+        last = (end + 2, high);
         for (place, byte) in [0xFF, low, high].into_iter().enumerate() {
             script.line(&format!("put screen {} {byte:02X}", end + place));
         }
         script.line(&format!("put attribute {} {kind:02X}", end + 1));
     }
+    last
 }
 
 /// Stores beside the end of each row, up to the torn one, each followed by one that puts the byte back.
-fn laid(script: &mut Script, columns: usize, torn: usize) {
+fn laid(script: &mut Script, columns: usize, torn: usize, wild: usize) {
     script.remark(&format!(
-        "Laid: a chain of full rows at {columns} columns, each byte stored and put back."
+        "Laid: a chain of full rows at {columns} columns, each byte stored and put back. Links are wild from row \
+         {wild} on."
     ));
     script.columns(columns);
     strew(script, 65536, 17);
-    lay(script, columns, torn);
+    let (place, high) = lay(script, columns, torn, wild);
     script.lines(&["draw", "rows"]);
+    if wild == ROWS - 1 {
+        script.remark(
+            "\"the first such row, or none\": the last row's link made tame, then wild again.",
+        );
+        for byte in [high & 0x0F, high] {
+            script.line(&format!("put screen {place} {byte:02X}"));
+            script.line("draw");
+        }
+    }
     for row in 0..ROWS {
         let memory = [0xEE000, 0xEF000][row % 2];
         let place = script.row_end(row.min(torn), row * 5 + row / 6);

@@ -7,9 +7,12 @@ use Rattle.listing.specs.Listing.{drawing}
 use Rattle.listing.proofs.draw_read.Statement.{statement}
 use Rattle.listing.proofs.draw_read.Tie as tie
 
+refused-requires : tie.Need-refused-requires
+refused-requires c κs = search needs
+
 returns : tie.Need-returns
 unfolding drawing
-returns c = rw (ne-eqb _ 0 (c .if1 .taken))
+returns c = rw (ne-eqb _ 0 (c .before .if1 .taken), c .refused .ensures)
 
 power-up-requires : tie.Need-power-up-requires
 power-up-requires c κs = search needs
@@ -30,4 +33,4 @@ returns-2 c =
     rw (eq-eqb _ _ (p .before .if1 .left)) (d .draw .ensures ∙ ap drawn-at (p .power-up .ensures))
 
 pub draw-read-spec : {M : Type 1} → statement M
-draw-read-spec = tie.close (tie.spec returns power-up-requires draw-requires same-length returns-2)
+draw-read-spec = tie.close (tie.spec refused-requires returns power-up-requires draw-requires same-length returns-2)

@@ -13,8 +13,13 @@ use Rattle.picture.proofs.draw.Tie as tie
 lengths-picture-requires : tie.Need-lengths-picture-requires
 lengths-picture-requires c κs = search needs
 
+refused-requires : tie.Need-refused-requires
+refused-requires c κs = search needs
+
 returns : tie.Need-returns
-returns c = rw (failed (c .before .lengths-picture .ensures) (c .if1 .taken))
+returns c =
+    let e = c .before in
+    rw (failed (e .before .lengths-picture .ensures) (e .if1 .taken)) cc
 
 columns-requires : tie.Need-columns-requires
 columns-requires c κs = search needs
@@ -26,14 +31,6 @@ draw-rows-requires c κs =
     let m = e .before .before .before .before .before .args .machine in
     let right = lentPicture (held (e .before .lengths-picture .ensures) (e .if1 .left)) in
     (right .0, (right .1 .0, (right .1 .1, rw (k .columns .ensures) (columns-fit m))))
-
-cast-reads : tie.Need-cast-reads
-cast-reads c =
-    let d = c .before .before in
-    let k = d .before .before in
-    let a = k .before .before .before .before .before .before .args in
-    let wide : k .columns .result ≤ recordPairs = rw (k .columns .ensures) (columns-fit (a .machine)) in
-    omega (arith, reads-fit (chain (k .columns .result) (a .screen .now) (a .attribute .now)) wide rows (le-refl rows))
 
 same-length : tie.Need-same-length
 same-length c = search needs
@@ -50,9 +47,9 @@ draw-spec =
     tie.close
     (tie.spec
     lengths-picture-requires
+    refused-requires
     returns
     columns-requires
     draw-rows-requires
-    cast-reads
     same-length
     returns-2)

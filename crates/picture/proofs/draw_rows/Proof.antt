@@ -5,16 +5,16 @@ use borrow.Author.Needs.{needs}
 use Rattle.chain.specs.Chain.{chain, rows}
 use Rattle.chain.proofs.Laws.{ahead-placed}
 use Rattle.picture.proofs.Records.{record-lent}
-use Rattle.picture.proofs.Walk.{Walking, walk-begins, sum-fits, walk-goes-on, walk-ends}
+use Rattle.picture.proofs.Walk.{Walking, walk-begins, count-fits, sum-fits, walk-goes-on, walk-ends}
 use Rattle.picture.proofs.draw_rows.Statement.{statement}
 use Rattle.picture.proofs.draw_rows.Tie as tie
 
 abbrev Inv-loop : tie.InvT-loop
-Inv-loop columns screen attribute picture₀ ahead₀ reads₀ row₀ picture ahead reads row =
-    Walking (chain columns screen attribute) picture ahead reads row
+Inv-loop columns screen attribute picture₀ ahead₀ reads₀ wild₀ row₀ picture ahead reads wild row =
+    Walking (chain columns screen attribute) picture ahead reads wild row
 
 abbrev μ-loop : tie.MeasureT-loop
-μ-loop columns screen attribute picture₀ ahead₀ reads₀ row₀ picture ahead reads row = rows - row
+μ-loop columns screen attribute picture₀ ahead₀ reads₀ wild₀ row₀ picture ahead reads wild row = rows - row
 
 first-requires : tie.Need-first-requires Inv-loop μ-loop
 first-requires c κs = search needs
@@ -50,6 +50,12 @@ add-reads c =
     let wide = l .before .before .before .before .before .pre .1 .1 .1 in
     omega (arith, sum-fits (l .loop .inv) (d .before .before .loop-test .taken) (d .draw-ahead .ensures .0) wide)
 
+cast-name : tie.Need-cast-name Inv-loop μ-loop
+cast-name c = search needs
+
+name-requires : tie.Need-name-requires Inv-loop μ-loop
+name-requires c κs = search needs
+
 add-row : tie.Need-add-row Inv-loop μ-loop
 add-row c = search needs
 
@@ -58,17 +64,30 @@ loop-less c = search needs
 
 loop-again : tie.Need-loop-again Inv-loop μ-loop
 loop-again c =
-    let d = c .before .before .before in
+    let d = c .before .before .before .before in
     let w = d .before .before .before .loop .inv in
     let more = d .before .before .loop-test .taken in
-    walk-goes-on w more (d .draw-ahead .ensures .0) (d .draw-ahead .ensures .1)
-    (d .draw-ahead .kept .1 .1 .1 .1 .0 ∙ record-lent _ _ (w .same) more)
+    rw (c .name .ensures)
+    (walk-goes-on w more (d .draw-ahead .ensures .0) (d .draw-ahead .ensures .1)
+    (d .draw-ahead .kept .1 .1 .1 .1 .0 ∙ record-lent _ _ (w .same) more))
+
+cast-accepted : tie.Need-cast-accepted Inv-loop μ-loop
+cast-accepted c =
+    let l = c .before in
+    let wide = l .before .before .before .before .before .pre .1 .1 .1 in
+    omega (arith, count-fits (l .loop .inv) wide)
+
+accepted-requires : tie.Need-accepted-requires Inv-loop μ-loop
+accepted-requires c κs = search needs
 
 same-length : tie.Need-same-length Inv-loop μ-loop
 same-length c = search needs
 
 returns : tie.Need-returns Inv-loop μ-loop
-returns c = walk-ends (c .before .loop .inv) (c .loop-test .left)
+returns c =
+    let l = c .before in
+    let end = walk-ends (l .before .loop .inv) (l .loop-test .left) in
+    (rw (c .accepted .ensures, end .0, end .1 .0), end .1 .1)
 
 pub draw-rows-spec : {M : Type 1} → statement M
 draw-rows-spec =
@@ -85,8 +104,12 @@ draw-rows-spec =
     part-draw-ahead-end
     draw-ahead-requires
     add-reads
+    cast-name
+    name-requires
     add-row
     loop-less
     loop-again
+    cast-accepted
+    accepted-requires
     same-length
     returns)

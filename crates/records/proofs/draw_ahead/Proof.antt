@@ -3,6 +3,7 @@ use native.Mathlib.Omega.{arith}
 use borrow.Author.Needs.{needs}
 use Rattle.chain.specs.Chain.{chain}
 use Rattle.chain.specs.Reading.{reads}
+use Rattle.chain.specs.Wild.{wild}
 use Rattle.chain.specs.Inner.{Placed}
 use Rattle.records.specs.Record.{cellPairs, recordOf}
 use Rattle.records.specs.Inner.{walked, drawnAhead}
@@ -44,7 +45,7 @@ same-length-2 : tie.Need-same-length-2
 same-length-2 c = search needs
 
 returns-2 : tie.Need-returns-2
-unfolding reads recordOf cellPairs
+unfolding reads wild recordOf cellPairs
 returns-2 c =
     let d = c .before .before in
     let h = d .before .before .before in
