@@ -46,7 +46,7 @@ unfoldable pub wildLinks : List Case
 wildLinks =
     -- P1: each link is FF FF
     record { gives = named (replicate screenBytes 0xFF) 0; says = Names true 0 ∷ [] }
-    -- P2: row 0 is torn, the others dark: none "has a link"
+    -- P2: row 0 is torn, the others are dark: "A torn or dark row has no link."
     ∷ record { gives = named [] 0; says = Names false 0 ∷ [] }
     -- P3 and P4: the high byte is 01; F1
     ∷ record { gives = named (0xFF ∷ 0x50 ∷ 0x01 ∷ []) 3; says = Names false 0 ∷ [] }
@@ -62,7 +62,7 @@ wildLinks =
     ∷ record { gives = named (emptyRows 0 1 (0xFF ∷ 6 ∷ 0x80 ∷ 0xFF ∷ 0 ∷ 0x10 ∷ [])) 3; says = Names true 1 ∷ [] }
     -- row 1 is torn, all its bytes F0
     ∷ record { gives = named (emptyRows 0 1 (replicate 84 0xF0)) 3; says = Names false 0 ∷ [] }
-    -- row 1 leads to itself, and so is every later row
+    -- row 1 is wild and leads to itself, so that every later row is the same
     ∷ record { gives = named (emptyRows 0 1 (0xFF ∷ 3 ∷ 0x20 ∷ [])) 3; says = Names true 1 ∷ [] }
     -- the last row alone; a row more than there are
     ∷ record { gives = named (emptyRows 0 23 (0xFF ∷ 0 ∷ 0x40 ∷ [])) 3; says = Names true 23 ∷ [] }

@@ -10,7 +10,6 @@ use borrow.Rule.Slice.PartMut.{putMid}
 use Rattle.lent.specs.Lengths.{pictureBytes}
 use Rattle.chain.specs.Chain.{Chain, first, rows, rowAt}
 use Rattle.chain.specs.Reading.{reads, readsTo, walkReads, readsAt132}
-use Rattle.chain.specs.Wild.{wild}
 use Rattle.chain.specs.Inner.{rowAhead, aheadOf}
 use Rattle.chain.specs.declared.Ahead.{Ahead}
 use Rattle.chain.specs.declared.Ahead.the-variants.{Row}
@@ -20,7 +19,8 @@ use Rattle.records.specs.Record.{recordBytes, recordPairs}
 use Rattle.records.specs.Inner.{walked, drawnAhead}
 use Rattle.records.specs.declared.Walked.{Walked}
 use Rattle.picture.specs.Picture.{inOrder, recordAt, pictureOf}
-use Rattle.picture.specs.Wild.{firstWild, named}
+use Rattle.picture.specs.Wild.{firstWild}
+use Rattle.picture.specs.Inner.{named}
 use Rattle.picture.specs.declared.FirstWild.{FirstWild}
 use Rattle.picture.specs.declared.FirstWild.the-variants.{NoRow}
 use Rattle.picture.proofs.Records.{record-back, record-put}

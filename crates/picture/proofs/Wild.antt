@@ -5,7 +5,8 @@ use mathlib.Core.Bool.{Bool, true, false, cond}
 use native.Mathlib.Omega.{arith}
 use Rattle.chain.specs.Chain.{Chain, rows, rowAt}
 use Rattle.chain.specs.Wild.{wild}
-use Rattle.picture.specs.Wild.{firstWildFrom, firstWild, named}
+use Rattle.picture.specs.Wild.{firstWildFrom, firstWild}
+use Rattle.picture.specs.Inner.{named}
 use Rattle.picture.specs.declared.FirstWild.{FirstWild}
 use Rattle.picture.specs.declared.FirstWild.the-variants.{Named, NoRow}
 

@@ -5,3 +5,4 @@ pub mod Named
 pub mod Counted
 pub mod Sizes
 pub mod Alike
+pub mod Inner

@@ -13,7 +13,7 @@ firstWildFrom c row (suc more) =
     let later = firstWildFrom c (row + 1) more in
     cond (wild c (rowAt c row)) (Named row) later
 
--- of all rows: the last row's link is read too, though it leads to none
+-- of all rows, the last one too: its link is read, though nothing is shown after it
 abbrev pub firstWild : Chain → FirstWild
 firstWild c = firstWildFrom c 0 rows
 
@@ -25,8 +25,3 @@ isNamed NoRow = false
 abbrev pub rowNamed : FirstWild → ℕ
 rowNamed (Named row) = row
 rowNamed NoRow = 0
-
--- no sentence of a document: the code goes from row to row, and names one if it is wild and none before it was named
-abbrev pub named : FirstWild → (row : ℕ) → (wild : Bool) → FirstWild
-named (Named before) row wild = Named before
-named NoRow row wild = cond wild (Named row) NoRow

@@ -7,8 +7,8 @@ ghost use Rattle.lent.specs.Lengths.{screenBytes, attributeBytes, pictureBytes}
 ghost use Rattle.chain.specs.Chain.{chain};
 ghost use Rattle.records.specs.Record.{recordPairs};
 ghost use Rattle.picture.specs.Picture.{pictureOf};
-ghost use Rattle.picture.specs.Wild.{named};
 ghost use Rattle.picture.specs.Draw.{lengthsPicture, refusedAnswer, acceptedAnswer, answerOf, drawn, draw};
+ghost use Rattle.picture.specs.Inner.{named};
 use chain::Ahead;
 use chain::Head;
 use machine::Machine;
