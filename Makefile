@@ -58,7 +58,7 @@ LOAD = $(MODEL)/load
 STRICT = -O2 -Iinclude -Wall -Wextra -Wpedantic -Wconversion -Wshadow -Werror
 C = $(CC) -std=c11 $(STRICT)
 CPP = $(CXX) -std=c++17 $(STRICT) -x c++
-FAULTS = 1 2 3 4 5 6 7 8 9 10 11 12 13 15 16
+FAULTS = 1 2 3 4 5 6 7 8 9 10 11 12 13 15 16 17 18 19 20 21
 # A fault of the second of two libraries.
 BOTH_FAULT = 14
 

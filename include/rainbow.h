@@ -29,7 +29,7 @@ extern "C" {
 
 /* Raised by every new call and every change of a number, a struct or a rule of this file. rainbow_version() is the
  * library's own. */
-#define RAINBOW_VERSION 3
+#define RAINBOW_VERSION 4
 
 /* The length of each buffer, in bytes. */
 #define RAINBOW_SHARED_BYTES 65536
@@ -44,12 +44,13 @@ extern "C" {
 
 /* The numbers of refusal. */
 #define RAINBOW_ACCEPTED 0
-#define RAINBOW_REFUSED_LENGTH 1  /* a lent buffer's length differs from the list */
-#define RAINBOW_REFUSED_ADDRESS 2 /* the 8088's address lies in none of its three ranges */
-#define RAINBOW_REFUSED_PORT 3    /* the port is none of 04, 0A, 0C, 10C */
-#define RAINBOW_REFUSED_CODE 4    /* the code is not in that port's list */
-#define RAINBOW_REFUSED_PLACE 5   /* a row over 23, a scan outside 1 to 10, a shadow place over 255 */
-#define RAINBOW_REFUSED_EDGES 6   /* bits 6 and 7 of port 0A both rise in one write */
+#define RAINBOW_REFUSED_LENGTH 1   /* a lent buffer's length differs from the list */
+#define RAINBOW_REFUSED_ADDRESS 2  /* the 8088's address lies in none of its three ranges */
+#define RAINBOW_REFUSED_PORT 3     /* the port is none of 04, 0A, 0C, 10C */
+#define RAINBOW_REFUSED_CODE 4     /* the code is not in that port's list */
+#define RAINBOW_REFUSED_PLACE 5    /* a row over 23, a scan outside 1 to 10, a shadow place over 255 */
+#define RAINBOW_REFUSED_EDGES 6    /* bits 6 and 7 of port 0A both rise in one write */
+#define RAINBOW_REFUSED_Z80_HELD 7 /* the Z80 is held: bit 0 of port 0A is 0 */
 
 /* The picture: a record for each row. A record is the row's start (two bytes, high byte first), its kind, its
  * count, then 132 pairs of character and attribute. The count is the cells before FF, or one of the two below. */
@@ -129,7 +130,7 @@ RAINBOW_SIZE(rainbow_part_place, 24);
 /* RAINBOW_VERSION of the header that the library was made for. */
 uint32_t rainbow_version(void);
 
-/* The machine at power-up: port 0A holds 00, 80 columns, 60 Hz, not interlaced, all else clear. */
+/* The machine at power-up: port 0A holds 00, so the Z80 is held; 80 columns, 60 Hz, not interlaced, all else clear. */
 rainbow_machine rainbow_power_up(void);
 
 /* A vertical tick: sets the vertical interrupt. */
@@ -140,6 +141,9 @@ size_t rainbow_columns(rainbow_machine machine);
 
 /* The scroll latch, 0 to 15: the field latch modulo 16. */
 uint8_t rainbow_scroll_latch(rainbow_machine machine);
+
+/* Whether the Z80 runs: bit 0 of port 0A is set. */
+bool rainbow_z80_runs(rainbow_machine machine);
 
 /* Whether the display is blanked: bit 1 of port 0A is clear. */
 bool rainbow_blanked(rainbow_machine machine);
@@ -152,8 +156,8 @@ bool rainbow_graphics(rainbow_machine machine);
  * 0C, 10C: 00 to 03 load the low two bits of the scroll latch, 04 to 07 its high two bits, 08 toggles the blink
  * flip-flop, 09 clears the vertical interrupt, 0A sets reverse field, 0B clears it. An accepted write to 0C also
  * enables the watchdog, one to 10C disables it.
- * 0A: every byte is a code, and is held. Bit 6 going from 0 to 1 copies shadow to NVM, bit 7 going from 0 to 1
- * copies NVM to shadow.
+ * 0A: every byte is a code, and is held; the Z80 runs only while bit 0 of it is set. Bit 6 going from 0 to 1 copies
+ * shadow to NVM, bit 7 going from 0 to 1 copies NVM to shadow.
  * Draw the picture afresh after a change of the column setting.
  * Refused: 1, 3, 4, 6. */
 rainbow_written rainbow_write_port(rainbow_machine machine, uint8_t *shadow, size_t shadow_length, uint8_t *nvm,
@@ -171,13 +175,13 @@ uint8_t rainbow_store_8088(uint8_t *shared, size_t shared_length, uint8_t *scree
                            uint8_t *attribute, size_t attribute_length, uint32_t address, uint8_t byte);
 
 /* What the Z80 reads: private at 0000 to 07FF and, from 0800 to FFFF, the shared byte of the same address.
- * Refused: 1. */
-rainbow_byte_read rainbow_read_z80(const uint8_t *private_memory, size_t private_length, const uint8_t *shared,
-                                   size_t shared_length, uint16_t address);
+ * Refused: 1, 7. */
+rainbow_byte_read rainbow_read_z80(rainbow_machine machine, const uint8_t *private_memory, size_t private_length,
+                                   const uint8_t *shared, size_t shared_length, uint16_t address);
 
-/* The Z80's store: changes that one byte and no other. The answer is the refusal: 1. */
-uint8_t rainbow_store_z80(uint8_t *private_memory, size_t private_length, uint8_t *shared, size_t shared_length,
-                          uint16_t address, uint8_t byte);
+/* The Z80's store: changes that one byte and no other. The answer is the refusal: 1, 7. */
+uint8_t rainbow_store_z80(rainbow_machine machine, uint8_t *private_memory, size_t private_length, uint8_t *shared,
+                          size_t shared_length, uint16_t address, uint8_t byte);
 
 /* The shadow by place 0 to 255: a read gives the byte modulo 16. Refused: 1, 5. */
 rainbow_byte_read rainbow_read_shadow(const uint8_t *shadow, size_t shadow_length, size_t place);

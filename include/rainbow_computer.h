@@ -58,6 +58,7 @@ static inline const char *rainbow_refusal_text(uint8_t refusal)
     case RAINBOW_REFUSED_CODE: return "the code is not in that port's list";
     case RAINBOW_REFUSED_PLACE: return "a row over 23, a scan outside 1 to 10, a shadow place over 255";
     case RAINBOW_REFUSED_EDGES: return "bits 6 and 7 of port 0A both rise in one write";
+    case RAINBOW_REFUSED_Z80_HELD: return "the Z80 is held";
     default: return "no number of refusal";
     }
 }
@@ -92,16 +93,18 @@ static inline rainbow_stored rainbow_computer_store(rainbow_computer *c, uint32_
                                       byte);
 }
 
-/* The Z80 reads; no address is refused. */
-static inline uint8_t rainbow_computer_read_z80(const rainbow_computer *c, uint16_t address)
+/* The Z80 reads. Refused: 7. */
+static inline rainbow_byte_read rainbow_computer_read_z80(const rainbow_computer *c, uint16_t address)
 {
-    return rainbow_read_z80(c->private_memory, sizeof c->private_memory, c->shared, sizeof c->shared, address).byte;
+    return rainbow_read_z80(c->machine, c->private_memory, sizeof c->private_memory, c->shared, sizeof c->shared,
+                            address);
 }
 
-/* The Z80 stores. The answer is the refusal. */
+/* The Z80 stores. The answer is the refusal: 7. */
 static inline uint8_t rainbow_computer_store_z80(rainbow_computer *c, uint16_t address, uint8_t byte)
 {
-    return rainbow_store_z80(c->private_memory, sizeof c->private_memory, c->shared, sizeof c->shared, address, byte);
+    return rainbow_store_z80(c->machine, c->private_memory, sizeof c->private_memory, c->shared, sizeof c->shared,
+                             address, byte);
 }
 
 /* The shadow by place. Refused: 5. */

@@ -17,13 +17,13 @@ from ctypes import c_bool, c_size_t, c_uint8, c_uint16, c_uint32
 from typing import NamedTuple, Optional
 
 # The numbers of include/rainbow.h, by the same names: first its version.
-VERSION = 3
+VERSION = 4
 SHARED_BYTES, PRIVATE_BYTES = 65536, 2048
 SCREEN_BYTES, ATTRIBUTE_BYTES, GLYPH_BYTES = 4096, 4096, 4096
 NVM_BYTES, SHADOW_BYTES = 256, 256
 PICTURE_BYTES, LINE_BYTES = 6432, 1188
 ACCEPTED, REFUSED_LENGTH, REFUSED_ADDRESS, REFUSED_PORT = 0, 1, 2, 3
-REFUSED_CODE, REFUSED_PLACE, REFUSED_EDGES = 4, 5, 6
+REFUSED_CODE, REFUSED_PLACE, REFUSED_EDGES, REFUSED_Z80_HELD = 4, 5, 6, 7
 ROWS, RECORD_BYTES, KIND_AT, COUNT_AT, PAIRS_AT = 24, 268, 2, 3, 4
 PAIRS = 132
 TORN, DARK = 255, 254
@@ -38,11 +38,12 @@ REFUSAL_TEXTS = (
     "the code is not in that port's list",
     "a row over 23, a scan outside 1 to 10, a shadow place over 255",
     "bits 6 and 7 of port 0A both rise in one write",
+    "the Z80 is held",
 )
 
 
 class Refused(Exception):
-    """A call was refused: `number` says why, 1 to 6, and `text` says it in words."""
+    """A call was refused: `number` says why, 1 to 7, and `text` says it in words."""
 
     def __init__(self, number):
         super().__init__(number)
@@ -128,13 +129,14 @@ FUNCTIONS = {
     "rainbow_vertical_tick": (Machine, [Machine]),
     "rainbow_columns": (c_size_t, [Machine]),
     "rainbow_scroll_latch": (c_uint8, [Machine]),
+    "rainbow_z80_runs": (c_bool, [Machine]),
     "rainbow_blanked": (c_bool, [Machine]),
     "rainbow_graphics": (c_bool, [Machine]),
     "rainbow_write_port": (Written, [Machine] + _LENT * 2 + [c_uint16, c_uint8]),
     "rainbow_read_8088": (ByteRead, _LENT * 3 + [c_uint32]),
     "rainbow_store_8088": (c_uint8, _LENT * 3 + [c_uint32, c_uint8]),
-    "rainbow_read_z80": (ByteRead, _LENT * 2 + [c_uint16]),
-    "rainbow_store_z80": (c_uint8, _LENT * 2 + [c_uint16, c_uint8]),
+    "rainbow_read_z80": (ByteRead, [Machine] + _LENT * 2 + [c_uint16]),
+    "rainbow_store_z80": (c_uint8, [Machine] + _LENT * 2 + [c_uint16, c_uint8]),
     "rainbow_read_shadow": (ByteRead, _LENT + [c_size_t]),
     "rainbow_write_shadow": (c_uint8, _LENT + [c_size_t, c_uint8]),
     "rainbow_draw": (Drawn, [Machine] + _LENT * 3),
@@ -237,12 +239,14 @@ class Computer(ctypes.Structure):
         return _call("rainbow_store_with_picture", self.machine, *memories, address, byte).marks
 
     def read_z80(self, address):
-        """The byte that the Z80 reads. No address is refused."""
-        return _call("rainbow_read_z80", self.private_memory, self.shared, address).byte
+        """The byte that the Z80 reads. Refused: 7."""
+        memories = self.private_memory, self.shared
+        return _call("rainbow_read_z80", self.machine, *memories, address).byte
 
     def store_z80(self, address, byte):
-        """The Z80 stores. No address is refused."""
-        _call("rainbow_store_z80", self.private_memory, self.shared, address, byte)
+        """The Z80 stores. Refused: 7."""
+        memories = self.private_memory, self.shared
+        _call("rainbow_store_z80", self.machine, *memories, address, byte)
 
     def read_shadow(self, place):
         """The byte at a place of the shadow, modulo 16. Refused: 5."""
@@ -300,6 +304,11 @@ class Computer(ctypes.Structure):
     def columns(self):
         """The column setting: 80 or 132."""
         return library.rainbow_columns(self.machine)
+
+    @property
+    def z80_runs(self):
+        """Whether the Z80 runs."""
+        return library.rainbow_z80_runs(self.machine)
 
     @property
     def blanked(self):

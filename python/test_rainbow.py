@@ -1,6 +1,7 @@
 """Tests of rainbow.py and rows.py: python3 -m unittest discover -s python
 
-The cases P1 to P13 are those of document 01; wild links are those of document 02, ticket 1.
+The cases P1 to P13 are those of document 01; wild links are those of document 02, ticket 1, and a
+Z80 that is held is that of ticket 2.
 """
 import copy
 import ctypes
@@ -148,6 +149,7 @@ class Worked(Case):
         self.assertEqual(self.chain(2, 41), Row(256, 2, rainbow.TORN, 40))
 
     def test_p7_z80(self):
+        self.computer.write_port(0x0A, 0x01)
         for address, memory, place in ((0x07FF, "private_memory", 2047), (0x0800, "shared", 2048)):
             before = bytes(self.computer)
             self.computer.store_z80(address, 0x5A)
@@ -282,6 +284,78 @@ class Wild(Case):
         self.refused(1, self.computer.load, b"\xff" * 4096, bytes(4095))
 
 
+class Held(Case):
+    """The Z80 runs only while bit 0 of port 0A is 1."""
+
+    def setUp(self):
+        super().setUp()
+        self.computer.private_memory[0x7FF], self.computer.shared[0x800] = 0x11, 0x22
+
+    def held(self):
+        """The Z80 is held: it is refused by 7, and no byte changes."""
+        self.assertIs(self.computer.z80_runs, False)
+        for address in (0x0000, 0x07FF, 0x0800, 0xFFFF):
+            self.refused(7, self.computer.read_z80, address)
+            self.refused(7, self.computer.store_z80, address, 0x5A)
+
+    def runs(self):
+        """The Z80 runs: at 07FF and 0800 it reads, stores, and reads what it stored."""
+        self.assertIs(self.computer.z80_runs, True)
+        for address, byte in ((0x07FF, 0x11), (0x0800, 0x22)):
+            self.assertEqual(self.computer.read_z80(address), byte)
+            self.computer.store_z80(address, 0x5A)
+            self.assertEqual(self.computer.read_z80(address), 0x5A)
+            self.computer.store_z80(address, byte)
+
+    def test_power_up(self):
+        self.held()
+        self.computer.write_port(0x0A, 0x83)
+        self.runs()
+        self.computer.power_up()
+        self.held()
+
+    def test_every_byte(self):
+        for held in range(256):
+            self.computer.machine.held = held
+            self.assertIs(self.computer.z80_runs, held % 2 == 1)
+            if held % 2 == 1:
+                self.runs()
+            else:
+                self.refused(7, self.computer.read_z80, 0x07FF)
+                self.refused(7, self.computer.store_z80, 0x0800, 0x5A)
+
+    def test_codes(self):
+        for code, runs in ((0x01, True), (0xBE, False), (0xBF, True), (0x02, False), (0x83, True)):
+            self.computer.write_port(0x0A, code)
+            (self.runs if runs else self.held)()
+
+    def test_a_refused_write_leaves_it(self):
+        self.refused(6, self.computer.write_port, 0x0A, 0xC1)
+        self.held()
+        self.computer.write_port(0x0A, 0x01)
+        self.refused(6, self.computer.write_port, 0x0A, 0xC0)
+        self.runs()
+
+    def test_other_calls_leave_it(self):
+        for code, check in ((0xBE, self.held), (0x01, self.runs)):
+            self.computer.write_port(0x0A, code)
+            for port in (0x04, 0x0C, 0x10C):
+                self.computer.write_port(port, 0x00)
+            self.computer.tick()
+            check()
+
+    def test_the_8088_is_not_held(self):
+        self.assertEqual(self.computer.store(0x00800, 0x33), 0)
+        self.assertEqual(self.computer.read(0x00800), 0x33)
+        self.computer.write_port(0x0A, 0x01)
+        self.assertEqual(self.computer.read_z80(0x0800), 0x33)
+
+    def test_says_why(self):
+        with self.assertRaises(Refused) as caught:
+            self.computer.store_z80(0x0800, 1)
+        self.assertEqual(str(caught.exception), "7, the Z80 is held")
+
+
 class Calls(Case):
     """Each method beside the rule of its call."""
 
@@ -306,14 +380,14 @@ class Calls(Case):
     def settings(self):
         """What the machine is asked."""
         computer = self.computer
-        return (computer.columns, computer.dots, computer.blanked, computer.graphics,
-                computer.scroll_latch)
+        return (computer.columns, computer.dots, computer.z80_runs, computer.blanked,
+                computer.graphics, computer.scroll_latch)
 
     def test_settings(self):
-        self.assertEqual(self.settings(), (80, 800, True, False, 0))
-        for port, code in ((0x04, 0x10), (0x0A, 0x06), (0x0C, 0x02), (0x10C, 0x05)):
+        self.assertEqual(self.settings(), (80, 800, False, True, False, 0))
+        for port, code in ((0x04, 0x10), (0x0A, 0x07), (0x0C, 0x02), (0x10C, 0x05)):
             self.computer.write_port(port, code)
-        self.assertEqual(self.settings(), (132, 1188, False, True, 6))
+        self.assertEqual(self.settings(), (132, 1188, True, False, True, 6))
 
     def test_machine(self):
         self.computer.tick()
@@ -441,6 +515,7 @@ class Numbers(Case):
 
     def test_do_not_fit(self):
         computer = self.computer
+        computer.write_port(0x0A, 0x01)
         for call, given, most in (
                 (computer.read, [0], [0xFFFFFFFF]),
                 (computer.store, [0, 0], [0xFFFFFFFF, 0xFF]),
@@ -469,6 +544,7 @@ class Numbers(Case):
         self.assertEqual(bytes(self.computer), before)
 
     def test_the_greatest_fits(self):
+        self.computer.write_port(0x0A, 0x01)
         self.computer.store_z80(0xFFFF, 0xFF)
         self.assertEqual(self.computer.read_z80(0xFFFF), 0xFF)
         self.assertEqual(self.computer.read(0xFFFF), 0xFF)
@@ -483,7 +559,7 @@ class Headers(unittest.TestCase):
 
     def test_numbers(self):
         wanted = defines(self.calls)
-        self.assertGreaterEqual(len(wanted), 26)
+        self.assertGreaterEqual(len(wanted), 27)
         self.assertEqual({name: getattr(rainbow, name, None) for name in wanted}, wanted)
         pairs = (rainbow.RECORD_BYTES - rainbow.PAIRS_AT) // 2
         self.assertEqual(rainbow.PAIRS, pairs)
@@ -513,7 +589,7 @@ class Headers(unittest.TestCase):
 
     def test_functions(self):
         wanted = declarations(self.calls)
-        self.assertEqual(len(wanted), 20)
+        self.assertEqual(len(wanted), 21)
         self.assertEqual(list(rainbow.FUNCTIONS), list(wanted))
         for name, (answer, given) in wanted.items():
             function = getattr(rainbow.library, name)
@@ -532,7 +608,7 @@ class Headers(unittest.TestCase):
         found = re.findall(r'case RAINBOW_(\w+): return "(.*)";', self.whole)
         wanted = {numbers[name]: text for name, text in found}
         self.assertEqual(dict(enumerate(rainbow.REFUSAL_TEXTS)), wanted)
-        self.assertEqual(list(wanted), list(range(7)))
+        self.assertEqual(list(wanted), list(range(8)))
 
 
 class Lent(Case):
@@ -569,6 +645,7 @@ class Lent(Case):
 
     def test_refused(self):
         self.computer.tick()
+        self.computer.write_port(0x0A, 0x01)
         self.computer.screen[:] = b"\xff" * 4096  # every link is wild
         functions = 0
         for name, (_, given) in declarations(header("rainbow.h")).items():
@@ -582,8 +659,18 @@ class Lent(Case):
             for at in lengths:
                 self.one_refused(name, call, arguments, at)
             self.assertEqual(bytes(self.computer), before, name)
+            if name.endswith("_z80"):
+                self.held_refused(name, call, arguments, lengths)
             self.assertEqual(self.refusal(call(*arguments)), 0, name)
         self.assertEqual(functions, 11)
+
+    def held_refused(self, name, call, arguments, lengths):
+        """The Z80 is held: 7, but 1 where a length is wrong too."""
+        before, held = bytes(self.computer), [rainbow.Machine(), *arguments[1:]]
+        self.assertEqual(self.refusal(call(*held)), 7, name)
+        for at in lengths:
+            self.one_refused(name, call, held, at)
+        self.assertEqual(bytes(self.computer), before, name)
 
     def one_refused(self, name, call, arguments, at):
         """One buffer is NULL, or has another length."""
@@ -639,6 +726,8 @@ class Runs(Case):
         if kind == 7:
             port = self.random.choice((0x04, 0x04, 0x04, 0x0A, 0x0C, 0x10C, 0x05))
             code = self.random.choice((0x00, 0x10, 0x20, 0x30, below(16), byte))
+            if port == 0x0A:  # the Z80 is held by half of the codes
+                code = below(256)
             return "write_port", computer.write_port(port, code), None
         if kind == 8:
             place = below(300)
@@ -696,7 +785,7 @@ class Runs(Case):
                 self.assertEqual(bytes(self.computer.picture), self.drawn_afresh())
         self.assertEqual(bytes(self.computer.picture), self.drawn_afresh())
         # The run went everywhere that it should.
-        for name, least in (("store", 8000), ("store_z80", 1000), ("write_port", 500),
+        for name, least in (("store", 8000), ("store_z80", 500), (7, 500), ("write_port", 500),
                             ("write_shadow", 500), ("scan_line", 500), ("marks", 500),
                             ("columns", 100), (2, 5), (3, 100), (4, 100), (5, 100), (6, 1)):
             self.assertGreaterEqual(seen.get(name, 0), least, name)
@@ -814,9 +903,9 @@ class Finding(unittest.TestCase):
         with tempfile.TemporaryDirectory() as folder:
             os.mkdir(os.path.join(folder, "python"))
             shutil.copy(os.path.join(HERE, "rainbow.py"), os.path.join(folder, "python"))
-            shutil.copy(file, os.path.join(folder, "librainbow.so.3"))
+            shutil.copy(file, os.path.join(folder, "librainbow.so.4"))
             told = self.imported(os.path.join(folder, "python"), LD_LIBRARY_PATH=folder)
-            self.assertEqual(told, "librainbow.so.3\n")
+            self.assertEqual(told, "librainbow.so.4\n")
 
     def library_file(self):
         """The file of the library that is being tested."""
@@ -838,7 +927,7 @@ class Finding(unittest.TestCase):
 
     def test_order(self):
         built = os.path.join(os.path.realpath(ROOT), "target", "library", "librainbow.so")
-        places = [built, "librainbow.so.3", "librainbow.so"]
+        places = [built, "librainbow.so.4", "librainbow.so"]
         self.assertEqual(self.tried(None), places)
         self.assertEqual(self.tried("librainbow.so.9"), places + ["librainbow.so.9"])
         self.assertEqual(self.tried("librainbow.so.9", RAINBOW_LIBRARY="/a/b"), ["/a/b"])
@@ -846,12 +935,12 @@ class Finding(unittest.TestCase):
 
     def test_version(self):
         self.assertEqual(rainbow.library.rainbow_version(), rainbow.VERSION)
-        other = types.SimpleNamespace(rainbow_version=lambda: 2)
-        with self.assertRaisesRegex(ImportError, "version 2, .* for 3$"):
+        other = types.SimpleNamespace(rainbow_version=lambda: 3)
+        with self.assertRaisesRegex(ImportError, "version 3, .* for 4$"):
             rainbow.set_up(other)
 
     def test_function_missing(self):
-        other = types.SimpleNamespace(rainbow_version=lambda: 3)
+        other = types.SimpleNamespace(rainbow_version=lambda: 4)
         with self.assertRaisesRegex(ImportError, "rainbow_power_up"):
             rainbow.set_up(other)
 

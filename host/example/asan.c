@@ -18,8 +18,9 @@ enum { MOST_READS = 3240 }; /* of a drawing, at 132 columns */
 
 static uint8_t *buffers[WAYS][BUFFERS];
 static uint8_t *fence; /* a page that may not be touched */
+static uint8_t *fenced_private, *fenced_shared; /* buffers of which no byte may be touched */
 static size_t page;
-static unsigned long calls, named;
+static unsigned long calls, named, z80_ran, z80_held;
 static uint64_t seed = 0x9E3779B97F4A7C15u;
 
 static uint32_t below(uint32_t n)
@@ -52,9 +53,19 @@ static uint8_t *fenced(size_t length, int way)
     return way == AT_END ? all + page + pages - length : all + page;
 }
 
+static uint8_t *untouched(size_t length)
+{
+    uint8_t *all = (uint8_t *)mmap(NULL, length, PROT_NONE, MAP_PRIVATE | MAP_ANONYMOUS, -1, 0);
+    if (all == MAP_FAILED)
+        fail("no memory");
+    return all;
+}
+
 static void make_buffers(void)
 {
     page = (size_t)sysconf(_SC_PAGESIZE);
+    fenced_private = untouched(listed[PRIVATE]);
+    fenced_shared = untouched(listed[SHARED]);
     for (int way = 0; way < WAYS; way++)
         for (int buffer = 0; buffer < BUFFERS; buffer++) {
             uint8_t *bytes = way == ON_HEAP ? (uint8_t *)malloc(listed[buffer]) : fenced(listed[buffer], way);
@@ -105,6 +116,15 @@ static uint8_t draw(rainbow_machine machine, uint8_t **b, int into)
     return drawn.refusal;
 }
 
+/* A call of the Z80 is refused by 7 exactly while the Z80 is held. */
+static void z80_refused(rainbow_machine machine, uint8_t refusal)
+{
+    bool runs = rainbow_z80_runs(machine);
+    if (refusal != (runs ? RAINBOW_ACCEPTED : RAINBOW_REFUSED_Z80_HELD))
+        fail("the Z80 is not refused as it should be");
+    *(runs ? &z80_ran : &z80_held) += 1;
+}
+
 /* One call that keeps the picture true. */
 static void call(rainbow_machine machine, uint8_t **b)
 {
@@ -116,8 +136,14 @@ static void call(rainbow_machine machine, uint8_t **b)
         rainbow_read_8088(b[SHARED], listed[SHARED], b[SCREEN], listed[SCREEN], b[ATTRIBUTE], listed[ATTRIBUTE],
                           address());
         break;
-    case 1: rainbow_read_z80(b[PRIVATE], listed[PRIVATE], b[SHARED], listed[SHARED], z80); break;
-    case 2: rainbow_store_z80(b[PRIVATE], listed[PRIVATE], b[SHARED], listed[SHARED], z80, any()); break;
+    case 1:
+        z80_refused(machine, rainbow_read_z80(machine, b[PRIVATE], listed[PRIVATE], b[SHARED], listed[SHARED],
+                                              z80).refusal);
+        break;
+    case 2:
+        z80_refused(machine, rainbow_store_z80(machine, b[PRIVATE], listed[PRIVATE], b[SHARED], listed[SHARED], z80,
+                                               any()));
+        break;
     case 3: rainbow_read_shadow(b[SHADOW], listed[SHADOW], place); break;
     case 4: rainbow_write_shadow(b[SHADOW], listed[SHADOW], place, any()); break;
     case 5:
@@ -142,9 +168,24 @@ static void refused(rainbow_machine machine, uint8_t **b)
                one.wild_row == 0 && other.wild_row == 0 &&
                rainbow_scan_line(machine, fence, length, fence, 0, 0, 1, fence, 3) == 1 &&
                rainbow_glyph_part(fence, length, any()).refusal == 1 &&
-               rainbow_write_shadow(fence, 255, 0, any()) == 1;
+               rainbow_write_shadow(fence, 255, 0, any()) == 1 &&
+               rainbow_read_z80(machine, fence, listed[PRIVATE] + 1, fence, 0, 0x0800).refusal == 1 &&
+               rainbow_store_z80(machine, b[PRIVATE], listed[PRIVATE], fence, length, 0x07FF, any()) == 1;
     if (!all)
         fail("a wrong length is not refused by 1");
+}
+
+/* Nor does a Z80 that is held touch memory. */
+static void held(rainbow_machine machine)
+{
+    machine.held &= 0xFE;
+    uint16_t address = (uint16_t)below(0x1000);
+    rainbow_byte_read read = rainbow_read_z80(machine, fenced_private, listed[PRIVATE], fenced_shared, listed[SHARED],
+                                              address);
+    if (read.refusal != RAINBOW_REFUSED_Z80_HELD || read.byte != 0 ||
+        rainbow_store_z80(machine, fenced_private, listed[PRIVATE], fenced_shared, listed[SHARED], address, any()) !=
+            RAINBOW_REFUSED_Z80_HELD)
+        fail("a held Z80 is not refused by 7");
 }
 
 int main(void)
@@ -160,15 +201,18 @@ int main(void)
             for (int i = 0; i < 50; i++)
                 call(machine, b);
             refused(machine, b);
+            held(machine);
             if (draw(machine, b, FRESH) != 0 || memcmp(b[PICTURE], b[FRESH], listed[PICTURE]) != 0)
                 fail("the kept picture differs from a fresh one");
-            calls += 59;
+            calls += 63;
         }
     }
     for (int buffer = 0; buffer < BUFFERS; buffer++)
         free(buffers[ON_HEAP][buffer]);
     if (named == 0)
         fail("no row was named");
+    if (z80_ran == 0 || z80_held == 0)
+        fail("the Z80 was always held, or never");
     printf("%lu calls touched nothing outside of their buffers\n", calls);
     return 0;
 }

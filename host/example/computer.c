@@ -7,7 +7,7 @@
 enum { CALLS = 200000 };
 
 static rainbow_computer c, twin; /* the twin is changed by the calls of rainbow.h alone */
-static uint32_t seed = 1;
+static uint32_t seed = 1, z80_ran, z80_held;
 
 static uint32_t below(uint32_t n)
 {
@@ -78,8 +78,13 @@ static void read_and_draw(void)
                                                  twin.attribute, sizeof twin.attribute, address);
     expect(read.refusal == wanted.refusal && read.byte == wanted.byte, "a read");
     uint16_t z80 = (uint16_t)below(0x1000);
-    expect(rainbow_computer_read_z80(&c, z80) == (z80 < 0x800 ? twin.private_memory[z80] : twin.shared[z80]),
+    bool runs = twin.machine.held % 2 == 1;
+    read = rainbow_computer_read_z80(&c, z80);
+    wanted.byte = z80 < 0x800 ? twin.private_memory[z80] : twin.shared[z80];
+    expect(runs ? read.refusal == 0 && read.byte == wanted.byte : read.refusal == 7 && read.byte == 0,
            "a read of the Z80");
+    expect(rainbow_z80_runs(c.machine) == runs, "whether the Z80 runs");
+    *(runs ? &z80_ran : &z80_held) += 1;
     size_t place = below(300), row = below(26), scan = below(12);
     read = rainbow_computer_read_shadow(&c, place);
     expect(read.refusal == (place > 255 ? 5 : 0) && read.byte == (place > 255 ? 0 : twin.shadow[place] % 16),
@@ -98,9 +103,9 @@ static void one_call(void)
     case 0: port(ports[below(6)], below(2) == 0 ? (uint8_t)(below(5) << 4) : byte); break;
     case 1: read_and_draw(); break;
     case 2:
-        rainbow_computer_store_z80(&c, (uint16_t)(0x700 + number), byte);
-        rainbow_store_z80(twin.private_memory, sizeof twin.private_memory, twin.shared, sizeof twin.shared,
-                          (uint16_t)(0x700 + number), byte);
+        expect(rainbow_computer_store_z80(&c, (uint16_t)(0x700 + number), byte) ==
+                   rainbow_store_z80(twin.machine, twin.private_memory, sizeof twin.private_memory, twin.shared,
+                                     sizeof twin.shared, (uint16_t)(0x700 + number), byte), "a store of the Z80");
         break;
     case 3:
         expect(rainbow_computer_write_shadow(&c, number, byte) ==
@@ -157,6 +162,31 @@ static void rows(void)
     expect(drawn.wild && drawn.wild_row == 1 && rainbow_computer_row(&d, 2).start == 0x200, "a wild link in row 1");
 }
 
+/* A Z80 that is held touches no memory. */
+static void z80(void)
+{
+    static rainbow_computer d, before;
+    rainbow_computer_power_up(&d);
+    d.private_memory[0x7FF] = 0x11;
+    d.shared[0x800] = 0x22;
+    before = d;
+    for (uint16_t address = 0x7FF; address <= 0x800; address++) {
+        rainbow_byte_read read = rainbow_computer_read_z80(&d, address);
+        expect(read.refusal == 7 && read.byte == 0, "a read of a Z80 that is held");
+        expect(rainbow_computer_store_z80(&d, address, 0x5A) == 7, "a store of a Z80 that is held");
+    }
+    expect(memcmp(&d, &before, sizeof d) == 0, "the memories of a Z80 that is held");
+    rainbow_computer_write_port(&d, 0x0A, 0x83);
+    expect(rainbow_computer_read_z80(&d, 0x7FF).byte == 0x11 && rainbow_computer_read_z80(&d, 0x800).byte == 0x22,
+           "a read of a Z80 that runs");
+    expect(rainbow_computer_store_z80(&d, 0x7FF, 0x5A) == 0 && d.private_memory[0x7FF] == 0x5A,
+           "a store of a Z80 that runs, at 07FF");
+    expect(rainbow_computer_store_z80(&d, 0x800, 0x5B) == 0 && d.shared[0x800] == 0x5B,
+           "a store of a Z80 that runs, at 0800");
+    rainbow_computer_write_port(&d, 0x0A, 0x82);
+    expect(rainbow_computer_store_z80(&d, 0x7FF, 0) == 7 && d.private_memory[0x7FF] == 0x5A, "a Z80 held again");
+}
+
 int main(void)
 {
     fill();
@@ -167,8 +197,10 @@ int main(void)
         if (calls % 100 == 0)
             compare();
     }
+    expect(z80_ran > 1000 && z80_held > 1000, "the Z80 was seldom held, or seldom not");
     rows();
-    for (int refusal = 0; refusal <= 7; refusal++)
+    z80();
+    for (int refusal = 0; refusal <= 8; refusal++)
         printf("%d: %s\n", refusal, rainbow_refusal_text((uint8_t)refusal));
     return 0;
 }

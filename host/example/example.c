@@ -1,11 +1,11 @@
-/* Lays two rows of text on the Rainbow's screen, draws them, changes a letter, prints a scan of the dots, and leaves
- * rubbish in a link. */
+/* Lays two rows of text on the Rainbow's screen, draws them, changes a letter, prints a scan of the dots, leaves
+ * rubbish in a link, and lets the Z80 run. */
 #include "rainbow.h"
 #include <stdio.h>
 
 static uint8_t shared[RAINBOW_SHARED_BYTES], screen[RAINBOW_SCREEN_BYTES], attribute[RAINBOW_ATTRIBUTE_BYTES];
 static uint8_t nvm[RAINBOW_NVM_BYTES], shadow[RAINBOW_SHADOW_BYTES], glyphs[RAINBOW_GLYPH_BYTES];
-static uint8_t picture[RAINBOW_PICTURE_BYTES], line[RAINBOW_LINE_BYTES];
+static uint8_t picture[RAINBOW_PICTURE_BYTES], line[RAINBOW_LINE_BYTES], private_memory[RAINBOW_PRIVATE_BYTES];
 
 /* The 8088's store at a place of the screen memory, and beside it in the attribute memory. */
 static void store(uint32_t place, uint8_t byte, uint8_t beside)
@@ -38,6 +38,17 @@ static void print_drawn(rainbow_drawn drawn)
         printf("the link of row %d is wild\n", drawn.wild_row);
     else
         puts("no link is wild");
+}
+
+/* The Z80 stores in shared memory, where the 8088 reads. */
+static void print_z80(rainbow_machine machine)
+{
+    uint8_t refusal =
+        rainbow_store_z80(machine, private_memory, sizeof private_memory, shared, sizeof shared, 0x0800, 0x5A);
+    rainbow_byte_read read = rainbow_read_8088(shared, sizeof shared, screen, sizeof screen, attribute,
+                                               sizeof attribute, 0x00800);
+    printf("the Z80 %s, refusal %d, the 8088 reads %02X\n", rainbow_z80_runs(machine) ? "runs" : "is held", refusal,
+           read.byte);
 }
 
 static void print_row(size_t row)
@@ -81,5 +92,9 @@ int main(void)
     store(0x10D, 0x92, 0x0E); /* the high byte of the link of row 1, which still leads to 0200 */
     print_drawn(draw(machine));
     print_row(2);
+
+    print_z80(machine);
+    machine = rainbow_write_port(machine, shadow, sizeof shadow, nvm, sizeof nvm, 0x0A, 0x83).machine;
+    print_z80(machine);
     return 0;
 }

@@ -30,7 +30,8 @@ static const buffer right[BUFFERS] = {
     {attribute, sizeof attribute}, {glyphs, sizeof glyphs}, {nvm, sizeof nvm}, {shadow, sizeof shadow},
     {picture, sizeof picture}, {line, sizeof line}};
 
-/* Whether a call with these buffers is refused by 1, if it is lent buffer `other`, and accepted if not. */
+/* Whether a call with these buffers is refused by 1, if it is lent buffer `other`, and accepted if not; or refused by
+ * 7, if it is the Z80's and the Z80 is held. */
 static void call_all(const buffer *b, int other)
 {
     rainbow_machine m = rainbow_power_up();
@@ -40,8 +41,13 @@ static void call_all(const buffer *b, int other)
            "read_8088");
     expect(rainbow_store_8088(s->bytes, s->length, c->bytes, c->length, a->bytes, a->length, 5, 1) == main_three,
            "store_8088");
-    expect(rainbow_read_z80(z->bytes, z->length, s->bytes, s->length, 5).refusal == (other < 2), "read_z80");
-    expect(rainbow_store_z80(z->bytes, z->length, s->bytes, s->length, 5, 1) == (other < 2), "store_z80");
+    for (uint8_t held = 0; held < 2; held++) {
+        rainbow_machine with_z80 = m;
+        with_z80.held = held;
+        uint8_t wanted = other < 2 ? 1 : held == 0 ? 7 : 0;
+        expect(rainbow_read_z80(with_z80, z->bytes, z->length, s->bytes, s->length, 5).refusal == wanted, "read_z80");
+        expect(rainbow_store_z80(with_z80, z->bytes, z->length, s->bytes, s->length, 5, 1) == wanted, "store_z80");
+    }
     expect(rainbow_read_shadow(h->bytes, h->length, 5).refusal == (other == 6), "read_shadow");
     expect(rainbow_write_shadow(h->bytes, h->length, 5, 1) == (other == 6), "write_shadow");
     expect(rainbow_write_port(m, h->bytes, h->length, n->bytes, n->length, 0x0A, 0x40).refusal ==
@@ -94,6 +100,7 @@ static void bools(void)
         }
         expect(rainbow_columns(with(0, (uint8_t)byte)) == (byte ? 132 : 80), "columns");
         expect(rainbow_dots_of_line(with(0, (uint8_t)byte)) == (byte ? 1188 : 800), "dots_of_line");
+        expect(rainbow_z80_runs(with(8, (uint8_t)byte)) == byte % 2, "z80_runs");
     }
 }
 

@@ -26,9 +26,12 @@ int main(void)
     rainbow_byte_read read = rainbow_read_8088(NULL, 0, NULL, 0, NULL, 0, 0xEE000);
     expect(read.refusal == 1 && read.byte == 0, "read_8088");
     expect(rainbow_store_8088(NULL, 0, NULL, 0, NULL, 0, 0xEE000, 1) == 1, "store_8088");
-    read = rainbow_read_z80(NULL, 0, NULL, 0, 0x0800);
-    expect(read.refusal == 1 && read.byte == 0, "read_z80");
-    expect(rainbow_store_z80(NULL, 0, NULL, 0, 0x0800, 1) == 1, "store_z80");
+    for (uint8_t held = 0; held < 2; held++) { /* 1 is ahead of 7 */
+        machine.held = held;
+        read = rainbow_read_z80(machine, NULL, 0, NULL, 0, 0x0800);
+        expect(read.refusal == 1 && read.byte == 0, "read_z80");
+        expect(rainbow_store_z80(machine, NULL, 0, NULL, 0, 0x0800, 1) == 1, "store_z80");
+    }
     read = rainbow_read_shadow(NULL, 0, 0);
     expect(read.refusal == 1 && read.byte == 0, "read_shadow");
     expect(rainbow_write_shadow(NULL, 0, 0, 1) == 1, "write_shadow");

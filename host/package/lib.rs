@@ -31,10 +31,10 @@
 //! | Call | What it does |
 //! |---|---|
 //! | [`machine::Machine::power_up`], [`vertical_tick`](machine::Machine::vertical_tick) | the machine at power-up; a vertical tick |
-//! | [`columns`](machine::Machine::columns), [`scroll_latch`](machine::Machine::scroll_latch), [`blanked`](machine::Machine::blanked), [`graphics`](machine::Machine::graphics) | what the machine is set to |
+//! | [`columns`](machine::Machine::columns), [`scroll_latch`](machine::Machine::scroll_latch), [`z80_runs`](machine::Machine::z80_runs), [`blanked`](machine::Machine::blanked), [`graphics`](machine::Machine::graphics) | what the machine is set to |
 //! | [`ports::write_port`] | writes a code to a port |
 //! | [`memories::read_8088`], [`memories::store_8088`] | the 8088 reads; it stores, with no picture |
-//! | [`memories::read_z80`], [`memories::store_z80`] | the Z80 reads and stores |
+//! | [`memories::read_z80`], [`memories::store_z80`] | the Z80 reads and stores, while it runs |
 //! | [`shadow::read_shadow`], [`shadow::write_shadow`] | the NVM's shadow, by place |
 //! | [`picture::draw`] | draws the picture afresh; how many bytes it read, and the first row whose link is wild |
 //! | [`mending::store_with_picture`], [`marks::is_marked`] | the 8088 stores, and the picture is mended; which rows changed |

@@ -22,8 +22,8 @@ pub mod scripts;
 pub mod trial;
 pub mod tube_sample;
 
-/// "Numbers of refusal": they are 1 to this.
-pub const REFUSALS: usize = 6;
+/// "Numbers of refusal", with those of document 02: they are 1 to this.
+pub const REFUSALS: usize = 7;
 
 /// A number of refusal or the accepted value.
 pub type Answer<T> = Result<T, u8>;

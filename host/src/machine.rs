@@ -1,4 +1,4 @@
-//! Document 01, "Ports": the machine and the write ports.
+//! Document 01, "Ports": the machine and the write ports. Document 02, ticket 2: when the Z80 runs.
 use crate::memories::{NVM, SHADOW};
 use crate::Answer;
 
@@ -28,6 +28,11 @@ impl Machine {
             watchdog: false,
             held: 0,
         }
+    }
+
+    /// 02, ticket 2: "the Z80 runs only while the bit is 1", bit 0 of port 0A.
+    pub fn z80_runs(&self) -> bool {
+        self.held & 0b001 != 0
     }
 
     pub fn blanked(&self) -> bool {
@@ -143,6 +148,61 @@ mod tests {
             held: 0x00,
         };
         assert_eq!(Machine::power_up(), machine);
+    }
+
+    /// 02, ticket 2: "this bit resets the Z80 and .. reset is active at power-up, and the unblanking value 83 .. has
+    /// it set. So the Z80 runs only while the bit is 1."
+    #[test]
+    fn z80_is_held_at_power_up_and_runs_after_83() {
+        assert!(!Machine::power_up().z80_runs());
+        for (code, runs) in [(0x83, true), (0x01, true), (0x82, false), (0xBE, false)] {
+            let machine = written(Machine::power_up(), 0x0A, &[code]).unwrap();
+            assert_eq!(machine.z80_runs(), runs, "{code:02X}");
+        }
+    }
+
+    /// 02, ticket 2: "So the Z80 runs only while the bit is 1." Bit 0 of the code decides, whatever was held before it.
+    #[test]
+    fn bit_0_alone_lets_the_z80_run() {
+        for held in 0x00..=0xFF {
+            let before = Machine { held, ..other() };
+            assert_eq!(before.z80_runs(), held % 2 == 1, "{held:02X}");
+            for code in 0x00..=0xFF {
+                let runs = written(before, 0x0A, &[code]).map(|machine| machine.z80_runs());
+                let both_rise = held < 0x40 && code >= 0xC0;
+                let wanted = if both_rise { Err(6) } else { Ok(code % 2 == 1) };
+                assert_eq!(runs, wanted, "{held:02X}, then {code:02X}");
+            }
+        }
+    }
+
+    /// 01: "A refusal returns its number .. all buffers and the machine stay": so does the bit that a write would have
+    /// changed.
+    #[test]
+    fn a_refused_write_leaves_the_z80_as_it_was() {
+        for (held, nvm, code, number) in [
+            (0x00, NVM, 0xC1, 6),
+            (0x01, NVM, 0xC0, 6),
+            (0x02, NVM + 1, 0x01, 1),
+            (0x83, NVM - 1, 0x82, 1),
+        ] {
+            let mut machine = Machine { held, ..other() };
+            let answer = machine.write(&mut [0; SHADOW], &mut vec![0; nvm], 0x0A, code);
+            assert_eq!((answer, machine.held), (Err(number), held));
+            assert_eq!(machine.z80_runs(), held % 2 == 1);
+        }
+    }
+
+    /// 02, ticket 2: "bit 0 of port 0A". No code of another port lets the Z80 run or holds it.
+    #[test]
+    fn the_other_ports_leave_the_z80() {
+        for held in [0x00, 0xFE, 0x01, 0xFF] {
+            let before = Machine { held, ..other() };
+            for (port, code) in [(0x04, 0x10), (0x04, 0x20), (0x0C, 0x01), (0x10C, 0x00)] {
+                let after = written(before, port, &[code]).unwrap();
+                assert_eq!(after.z80_runs(), before.z80_runs(), "{port:X} {code:02X}");
+            }
+        }
     }
 
     /// "00 sets 80 columns, 10 sets 132, and both set interlace; 20 sets 60 Hz, 30 sets 50 Hz, and both clear

@@ -1,4 +1,6 @@
-//! Document 01, "Lent memory": the memories as the two processors see them, and the shadow.
+//! Document 01, "Lent memory": the memories as the two processors see them, and the shadow. Document 02, ticket 2: a
+//! Z80 that is held sees none.
+use crate::machine::Machine;
 use crate::Answer;
 
 pub const SHARED: usize = 65536;
@@ -48,21 +50,40 @@ impl View8088 {
     }
 }
 
-/// The byte that the Z80 sees at an address.
-fn z80_at<'a>(private: &'a mut [u8], shared: &'a mut [u8], address: u16) -> Answer<&'a mut u8> {
+/// The byte that the Z80 sees at an address, if it runs.
+fn z80_at<'a>(
+    machine: &Machine,
+    private: &'a mut [u8],
+    shared: &'a mut [u8],
+    address: u16,
+) -> Answer<&'a mut u8> {
     if private.len() != PRIVATE || shared.len() != SHARED {
         return Err(1);
+    }
+    if !machine.z80_runs() {
+        return Err(7);
     }
     let memory = if address >> 11 == 0 { private } else { shared };
     Ok(&mut memory[usize::from(address)])
 }
 
-pub fn z80_read(private: &mut [u8], shared: &mut [u8], address: u16) -> Answer<u8> {
-    z80_at(private, shared, address).map(|byte| *byte)
+pub fn z80_read(
+    machine: &Machine,
+    private: &mut [u8],
+    shared: &mut [u8],
+    address: u16,
+) -> Answer<u8> {
+    z80_at(machine, private, shared, address).map(|byte| *byte)
 }
 
-pub fn z80_store(private: &mut [u8], shared: &mut [u8], address: u16, byte: u8) -> Answer<()> {
-    z80_at(private, shared, address).map(|place| *place = byte)
+pub fn z80_store(
+    machine: &Machine,
+    private: &mut [u8],
+    shared: &mut [u8],
+    address: u16,
+    byte: u8,
+) -> Answer<()> {
+    z80_at(machine, private, shared, address).map(|place| *place = byte)
 }
 
 pub fn shadow_read(shadow: &[u8], place: usize) -> Answer<u8> {
@@ -93,6 +114,19 @@ mod tests {
         (view.screen[0], view.screen[SCREEN - 1]) = (0x21, 0x22);
         (view.attribute[0], view.attribute[ATTRIBUTE - 1]) = (0x31, 0x32);
         view
+    }
+
+    /// The machine at power-up but for the byte that port 0A holds.
+    fn holding(held: u8) -> Machine {
+        Machine {
+            held,
+            ..Machine::power_up()
+        }
+    }
+
+    /// A machine whose Z80 runs.
+    fn running() -> Machine {
+        holding(0x01)
     }
 
     /// The places at which two memories differ.
@@ -157,7 +191,8 @@ mod tests {
         }
     }
 
-    /// "Z80 store at 07FF; at 0800: private 2047; shared 2048". "A Z80 store changes that one byte and no other."
+    /// "Z80 store at 07FF; at 0800: private 2047; shared 2048". "A Z80 store changes that one byte and no other." 02,
+    /// ticket 2: "P7 has it set", bit 0 of port 0A.
     #[test]
     fn p7_stores_by_the_z80() {
         for (address, in_private, in_shared) in [
@@ -167,10 +202,12 @@ mod tests {
             (0xFFFF, vec![], vec![65535]),
         ] {
             let (mut private, mut shared) = (vec![0; PRIVATE], vec![0; SHARED]);
-            assert_eq!(z80_store(&mut private, &mut shared, address, 0x77), Ok(()));
+            let stored = z80_store(&running(), &mut private, &mut shared, address, 0x77);
+            assert_eq!(stored, Ok(()));
             assert_eq!(changed(&[0; PRIVATE], &private), in_private);
             assert_eq!(changed(&[0; SHARED], &shared), in_shared);
-            assert_eq!(z80_read(&mut private, &mut shared, address), Ok(0x77));
+            let read = z80_read(&running(), &mut private, &mut shared, address);
+            assert_eq!(read, Ok(0x77));
         }
     }
 
@@ -181,19 +218,87 @@ mod tests {
         let (mut one, mut other) = (vec![0x22; SHARED], vec![0x22; SHARED]);
         other[..0x800].fill(0x33);
         for address in 0..=0xFFFF {
-            let byte = z80_read(&mut private, &mut one, address);
+            let byte = z80_read(&running(), &mut private, &mut one, address);
             assert_eq!(byte, Ok(if address < 0x800 { 0x11 } else { 0x22 }));
-            assert_eq!(z80_read(&mut private, &mut other, address), byte);
+            let again = z80_read(&running(), &mut private, &mut other, address);
+            assert_eq!(again, byte);
         }
     }
 
-    /// "A Z80 address has sixteen bits, so none is refused", but for a length.
+    /// 02, ticket 2: "The rule about two runs now lists this bit": runs that agree on it and on the Z80's bytes give
+    /// the same answers, whatever else the machine is. Runs that differ in it do not.
+    #[test]
+    fn two_runs_agree_on_the_bit() {
+        let (mut private, mut shared) = (vec![0x11; PRIVATE], vec![0x22; SHARED]);
+        for held in 0x00..=0xFF {
+            let other = Machine {
+                columns: 132,
+                latch: held,
+                watchdog: true,
+                ..holding(held ^ 0xFE)
+            };
+            for address in [0x0000, 0x07FF, 0x0800, 0xFFFF] {
+                let one = z80_read(&holding(held), &mut private, &mut shared, address);
+                let same = z80_read(&other, &mut private, &mut shared, address);
+                let differs = z80_read(&holding(held ^ 1), &mut private, &mut shared, address);
+                assert_eq!(one, same);
+                assert_ne!(one, differs);
+            }
+        }
+    }
+
+    /// 02, ticket 2: "Refusals: 7, the Z80 is held, for both Z80 access calls". "So the Z80 runs only while the bit is
+    /// 1": of the 256 bytes that port 0A may hold, bit 0 decides. P7's two addresses, and those at the ends.
+    #[test]
+    fn a_held_z80_does_not_touch_memory() {
+        let (mut private, mut shared) = (vec![0x11; PRIVATE], vec![0x22; SHARED]);
+        for held in 0x00..=0xFF {
+            for address in [0x0000, 0x07FF, 0x0800, 0xFFFF] {
+                let machine = holding(held);
+                let seen = if address < 0x800 { 0x11 } else { 0x22 };
+                let (read, stored) = match held % 2 {
+                    0 => (Err(7), Err(7)),
+                    _ => (Ok(seen), Ok(())),
+                };
+                let answer = z80_read(&machine, &mut private, &mut shared, address);
+                assert_eq!(answer, read, "{held:02X}");
+                let answer = z80_store(&machine, &mut private, &mut shared, address, 0x77);
+                assert_eq!(answer, stored, "{held:02X}");
+                if stored.is_ok() {
+                    let back = z80_store(&machine, &mut private, &mut shared, address, seen);
+                    assert_eq!(back, Ok(()));
+                }
+                assert_eq!(private, [0x11; PRIVATE]);
+                assert_eq!(shared, [0x22; SHARED]);
+            }
+        }
+    }
+
+    /// 02, ticket 2: "reset is active at power-up"
+    #[test]
+    fn the_z80_is_held_at_power_up() {
+        let machine = Machine::power_up();
+        let (mut private, mut shared) = (vec![0x11; PRIVATE], vec![0x22; SHARED]);
+        for address in [0x07FF, 0x0800] {
+            let read = z80_read(&machine, &mut private, &mut shared, address);
+            let stored = z80_store(&machine, &mut private, &mut shared, address, 0x77);
+            assert_eq!((read, stored), (Err(7), Err(7)));
+        }
+        assert_eq!(private, [0x11; PRIVATE]);
+        assert_eq!(shared, [0x22; SHARED]);
+    }
+
+    /// "A Z80 address has sixteen bits, so none is refused", but for a length. 02, ticket 2: "7, the Z80 is held, for
+    /// both Z80 access calls, after 1": a wrong length is refused by 1, held or not.
     #[test]
     fn the_z80s_lengths() {
         for (private, shared) in [(PRIVATE - 1, SHARED), (PRIVATE, SHARED + 1), (0, 0)] {
             let (mut private, mut shared) = (vec![0; private], vec![0; shared]);
-            assert_eq!(z80_read(&mut private, &mut shared, 0x0800), Err(1));
-            assert_eq!(z80_store(&mut private, &mut shared, 0, 0x77), Err(1));
+            for machine in [running(), Machine::power_up()] {
+                let read = z80_read(&machine, &mut private, &mut shared, 0x0800);
+                let stored = z80_store(&machine, &mut private, &mut shared, 0, 0x77);
+                assert_eq!((read, stored), (Err(1), Err(1)));
+            }
             assert!(private.iter().chain(&shared).all(|byte| *byte == 0));
         }
     }

@@ -2,7 +2,7 @@
 use mathlib.Core.Path.{_≡_, refl}
 use mathlib.Core.List.{List, map, map-append}
 use Rattle.memories.specs.View8088.{within, lengths8088, seen8088}
-use Rattle.memories.specs.ViewZ80.{lengthsZ80, isPrivate}
+use Rattle.memories.specs.ViewZ80.{lengthsZ80, refusalZ80, isPrivate, seenZ80}
 use Rattle.ports.specs.Ports.{lengthsNvm}
 use Rattle.chain.specs.Chain.{byteAt, capacity, firstFF, terminator, link, rowFrom, next, rowAt}
 use Rattle.chain.specs.Reading.{reads, readsTo, from, screenRead, attributeRead}
@@ -25,12 +25,12 @@ use Rattle.ascii.specs.Numbers.{decimal, reached, digit, hex}
 use Rattle.listing.specs.Listing.{heading, counted, rowAndStart, line, lineOf as rowLine, linesTo, refusedText, textOf, drawing, listRows}
 use Rattle.cases.specs.Said.{Said, Case, differ}
 use Rattle.cases.specs.Screens.{alikeFrom, alike, drawnFrom, rowsOf, drawnAll, memory, byteOfRow, startOfRow, countOfRow, named, emptyRows}
-use Rattle.cases.specs.Memories.{zeros, refusedBy, storedByZ80, storedBy8088}
+use Rattle.cases.specs.Memories.{zeros, refusedBy, running, storedByZ80, storedShort, readByZ80, storedBy8088}
 use Rattle.cases.specs.Ports.{shadow, nvm, written, writtenAll, none, recalls}
 use Rattle.cases.specs.Mends.{markedOf, markedFrom, marked, storedAt, mendedRow}
 use Rattle.cases.specs.Dots.{showing, rowOfKind, litDots, everyByte, ofCharacter, numbered, digits80, digits132, bits, litByBits, underDigits, printed}
 use Rattle.cases.specs.Lister.{listedOf}
-use Rattle.cases.specs.Table.{screens, wildLinks, stores, writes, mends, dots, prints, table}
+use Rattle.cases.specs.Table.{screens, wildLinks, stores, held, writes, mends, dots, prints, table}
 use Rattle.cases.specs.Worked.{Worked}
 
 abbrev gives : List Case → List (List Said)
@@ -48,8 +48,12 @@ unfolding byteAt capacity firstFF terminator link rowFrom next rowAt wildLink wi
 named-out = refl
 
 stored : gives stores ≡ says stores
-unfolding within lengths8088 seen8088 lengthsZ80 isPrivate differ zeros refusedBy storedByZ80 storedBy8088 stores
+unfolding within lengths8088 seen8088 lengthsZ80 refusalZ80 isPrivate differ zeros refusedBy running storedByZ80 storedBy8088 stores
 stored = refl
+
+held-out : gives held ≡ says held
+unfolding lengthsNvm lengthsZ80 refusalZ80 isPrivate seenZ80 differ shadow nvm written writtenAll zeros refusedBy running storedByZ80 storedShort readByZ80 held
+held-out = refl
 
 written-out : gives writes ≡ says writes
 unfolding lengthsNvm differ shadow nvm written writtenAll none recalls writes
@@ -69,4 +73,4 @@ printed-out = refl
 
 pub worked : Worked
 unfolding table
-worked = simp map-append (rw (drawn, named-out, stored, written-out, mended-out, shown-out, printed-out))
+worked = simp map-append (rw (drawn, named-out, stored, held-out, written-out, mended-out, shown-out, printed-out))

@@ -9,6 +9,7 @@ pub data Said : Type 0 where
   Shared : (place : ℕ) → Said
   Screen : (place : ℕ) → Said
   Attribute : (place : ℕ) → Said
+  Byte : ℕ → Said
   Refused : (number : ℕ) → Said
   Interlaced : Bool → Said
   Recalls : ℕ → Said

@@ -1,15 +1,16 @@
--- Document 01, "Screens and ports worked out": the cases marked P. Document 02: those of ticket 1.
+-- Document 01, "Screens and ports worked out": the cases marked P. Document 02: those of tickets 1 and 2.
 use Prim.Native.Nat.{_-_}
 use mathlib.Core.List.{List, [], _∷_, _++_}
 use mathlib.Core.Bool.{true, false}
 use lib.ListN.{replicate}
 use Rattle.lent.specs.Lengths.{screenBytes, attributeBytes}
+use Rattle.machine.specs.Fields.{withHeld}
 use Rattle.machine.specs.Power.{powerUp}
 use Rattle.glyphs.specs.Scans.{glyphScan}
 use Rattle.ascii.specs.Ascii.{ascii}
-use Rattle.cases.specs.Said.{Case, Private, Shared, Screen, Attribute, Refused, Interlaced, Recalls, Row, Start, Count, Reads, Names, Dots, GlyphScan, Prints}
+use Rattle.cases.specs.Said.{Case, Private, Shared, Screen, Attribute, Byte, Refused, Interlaced, Recalls, Row, Start, Count, Reads, Names, Dots, GlyphScan, Prints}
 use Rattle.cases.specs.Screens.{alike, drawnAll, startOfRow, countOfRow, named, emptyRows}
-use Rattle.cases.specs.Memories.{storedByZ80, storedBy8088}
+use Rattle.cases.specs.Memories.{running, storedByZ80, storedShort, readByZ80, storedBy8088}
 use Rattle.cases.specs.Ports.{writtenAll, recalls}
 use Rattle.cases.specs.Lister.{listedOf}
 use Rattle.cases.specs.Mends.{marked, mendedRow}
@@ -72,15 +73,40 @@ wildLinks =
 -- P7, P8
 unfoldable pub stores : List Case
 stores =
-    -- P7: Z80 store at 07FF; at 0800: private 2047; shared 2048
-    record { gives = storedByZ80 0x07FF; says = Private 2047 ∷ [] }
-    ∷ record { gives = storedByZ80 0x0800; says = Shared 2048 ∷ [] }
+    -- P7: Z80 store at 07FF; at 0800: private 2047; shared 2048. 02, ticket 2: "P7 has it set", bit 0 of port 0A
+    record { gives = storedByZ80 running 0x07FF; says = Private 2047 ∷ [] }
+    ∷ record { gives = storedByZ80 running 0x0800; says = Shared 2048 ∷ [] }
     -- P8: 8088 at EE000, EFFFF; EDFFF, F0000, 10000: screen 0, attribute 4095; refused 2
     ∷ record { gives = storedBy8088 0xEE000; says = Screen 0 ∷ [] }
     ∷ record { gives = storedBy8088 0xEFFFF; says = Attribute 4095 ∷ [] }
     ∷ record { gives = storedBy8088 0xEDFFF; says = Refused 2 ∷ [] }
     ∷ record { gives = storedBy8088 0xF0000; says = Refused 2 ∷ [] }
     ∷ record { gives = storedBy8088 0x10000; says = Refused 2 ∷ [] }
+    ∷ []
+
+-- 02, ticket 2: "So the Z80 runs only while the bit is 1. .. Refusals: 7, the Z80 is held, for both Z80 access calls,
+-- after 1."
+unfoldable pub held : List Case
+held =
+    -- 003: "This signal is active at power-up": a Z80 that is held, at 07FF and at 0800
+    record { gives = storedByZ80 powerUp 0x07FF; says = Refused 7 ∷ [] }
+    ∷ record { gives = storedByZ80 powerUp 0x0800; says = Refused 7 ∷ [] }
+    ∷ record { gives = readByZ80 powerUp 0x07FF; says = Refused 7 ∷ Byte 0x00 ∷ [] }
+    ∷ record { gives = readByZ80 powerUp 0x0800; says = Refused 7 ∷ Byte 0x00 ∷ [] }
+    -- one that runs reads the byte
+    ∷ record { gives = readByZ80 running 0x07FF; says = Byte 0x5A ∷ [] }
+    ∷ record { gives = readByZ80 running 0x0800; says = Byte 0x5A ∷ [] }
+    -- "the unblanking value 83 in source document 001 has it set"; FE has every bit set but this one
+    ∷ record { gives = storedByZ80 (writtenAll 0x0A powerUp (0x83 ∷ [])) 0x0800; says = Shared 2048 ∷ [] }
+    ∷ record { gives = storedByZ80 (withHeld powerUp 0xFE) 0x0800; says = Refused 7 ∷ [] }
+    -- 82 over 83 holds it again
+    ∷ record { gives = storedByZ80 (writtenAll 0x0A powerUp (0x83 ∷ 0x82 ∷ [])) 0x0800; says = Refused 7 ∷ [] }
+    -- 1 wins, whether the Z80 is held or runs
+    ∷ record { gives = storedShort powerUp 0x0800; says = Refused 1 ∷ [] }
+    ∷ record { gives = storedShort running 0x0800; says = Refused 1 ∷ [] }
+    -- C1 over 00 and C0 over 01 are refused by 6, and leave the Z80 as it was
+    ∷ record { gives = storedByZ80 (writtenAll 0x0A powerUp (0xC1 ∷ [])) 0x0800; says = Refused 7 ∷ [] }
+    ∷ record { gives = storedByZ80 (writtenAll 0x0A running (0xC0 ∷ [])) 0x0800; says = Shared 2048 ∷ [] }
     ∷ []
 
 -- P9, P12
@@ -174,4 +200,4 @@ prints =
     ∷ []
 
 unfoldable pub table : List Case
-table = screens ++ wildLinks ++ stores ++ writes ++ mends ++ dots ++ prints
+table = screens ++ wildLinks ++ stores ++ held ++ writes ++ mends ++ dots ++ prints

@@ -1,4 +1,5 @@
--- Document 01, "Numbers of refusal": the table's numbers, and 0 for a call that is not refused.
+-- Document 01, "Numbers of refusal": the table's numbers, and 0 for a call that is not refused. Document 02 adds to
+-- them.
 use Prim.Native.Nat.{ℕ}
 use mathlib.Core.Bool.{Bool, not}
 use lib.Dec.{eqb}
@@ -33,3 +34,7 @@ placeRefused = 5
 -- bits 6 and 7 of 0A both rise in one write
 abbrev pub edgesRefused : ℕ
 edgesRefused = 6
+
+-- 02, ticket 2: "7, the Z80 is held"
+abbrev pub z80HeldRefused : ℕ
+z80HeldRefused = 7

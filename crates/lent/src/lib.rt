@@ -1,6 +1,6 @@
 // What every call has in common: the lengths of the memories that a caller lends, the numbers of
 // refusal, and the answer of a call that reads a byte. Document 01, "Lent memory" and "Numbers of
-// refusal".
+// refusal"; document 02 has the numbers from 7 up.
 ghost use mathlib.Core.Path.{_≡_};
 ghost use mathlib.Core.Bool.{_&&_};
 ghost use lib.Dec.{eqb};
@@ -38,6 +38,8 @@ pub const CODE: u8 = 4;
 pub const PLACE: u8 = 5;
 // Bits 6 and 7 of 0A both rise in one write.
 pub const EDGES: u8 = 6;
+// The Z80 is held.
+pub const Z80_HELD: u8 = 7;
 
 // Whether two lengths are those of the list: a is to be x, and b y.
 pub fn two_lengths(a: usize, x: usize, b: usize, y: usize) -> bool

@@ -1,8 +1,8 @@
 // The machine's own state, a struct by value. Document 01, "Ports": what the ports set, how it is at
-// power-up, and the vertical tick.
+// power-up, and the vertical tick. Document 02, ticket 2: whether the Z80 runs.
 ghost use mathlib.Core.Path.{_≡_};
 ghost use Rattle.machine.specs.Power.{powerUp, verticalTick};
-ghost use Rattle.machine.specs.Settings.{columns, scrollLatch, blanked, graphics};
+ghost use Rattle.machine.specs.Settings.{columns, scrollLatch, z80Runs, blanked, graphics};
 
 #[repr(C)]
 pub struct Machine {
@@ -71,6 +71,13 @@ impl Machine {
         ensures { λ r. ⌜ r ≡ scrollLatch self ⌝ }
     {
         self.latch % 16
+    }
+
+    // Whether bit 0 of the byte that port 0A holds is set: the Z80 runs only while it is.
+    pub fn z80_runs(self) -> bool
+        ensures { λ r. ⌜ r ≡ z80Runs self ⌝ }
+    {
+        self.held % 2 == 1
     }
 
     // Whether bit 1 of the byte that port 0A holds is clear, which blanks the display.

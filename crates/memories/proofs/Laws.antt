@@ -3,16 +3,18 @@
 use Prim.Native.Nat.{ℕ, _+_, _-_, _≤_, _<_}
 use mathlib.Core.Path.{_≡_, refl, subst, sym, _∙_}
 use mathlib.Core.List.{List}
-use mathlib.Core.Bool.{Bool, true, false, not, cond, and-false, and-eq-true-iff, true≢false}
+use mathlib.Core.Bool.{Bool, true, false, not, cond, _&&_, and-false, and-eq-true-iff, true≢false}
 use native.Mathlib.Omega.{arith}
 use lib.ListN.{length}
 use lib.Dec.{leb, eqb}
 use borrow.Author.Tests.{not-false, eqb-true, le-leb, lt-leb, leb-true, lt-ltb, le-ltb}
 use Rattle.lent.specs.Lengths.{sharedBytes, screenBytes, attributeBytes, privateBytes}
-use Rattle.lent.specs.Refusals.{accepted, refuses, lengthRefused, addressRefused}
+use Rattle.lent.specs.Refusals.{accepted, refuses, lengthRefused, addressRefused, z80HeldRefused}
 use Rattle.lent.proofs.Tests.{either, both-equal, three-equal}
+use Rattle.machine.specs.Settings.{z80Runs}
+use Rattle.machine.specs.declared.Machine.{Machine}
 use Rattle.memories.specs.View8088.{within, seen8088, lengths8088, isNowhere, refusal8088, Stored8088, storeSeen, store8088}
-use Rattle.memories.specs.ViewZ80.{lengthsZ80, sharedFrom, isPrivate}
+use Rattle.memories.specs.ViewZ80.{lengthsZ80, refusalZ80, sharedFrom, isPrivate}
 use Rattle.memories.specs.declared.view8088.Seen.{Seen}
 use Rattle.memories.specs.declared.view8088.Seen.the-variants.{Shared, Screen, Attribute, Nowhere}
 
@@ -65,9 +67,41 @@ unfolding lengths8088
 lent8088 {shared} {screen} {attribute} =
     three-equal shared sharedBytes screen screenBytes attribute attributeBytes
 
-pub lentZ80 : {private shared : ℕ} → lengthsZ80 private shared ≡ true → (private ≡ privateBytes) × (shared ≡ sharedBytes)
-unfolding lengthsZ80
-lentZ80 {private} {shared} = both-equal private privateBytes shared sharedBytes
+-- they are where an access of the Z80 is not refused by 1
+pub lentZ80 :
+    (m : Machine) (private shared : ℕ) {answer : ℕ} → answer ≡ refusalZ80 m private shared → (answer ≡ lengthRefused → ⊥)
+    → (private ≡ privateBytes) × (shared ≡ sharedBytes)
+unfolding lengthsZ80 refusalZ80
+lentZ80 m private shared {answer} e h = go (eqb private privateBytes && eqb shared sharedBytes) refl e
+  where
+    go :
+        (right : Bool) → eqb private privateBytes && eqb shared sharedBytes ≡ right
+        → answer ≡ cond (not right) lengthRefused (cond (not (z80Runs m)) z80HeldRefused accepted)
+        → (private ≡ privateBytes) × (shared ≡ sharedBytes)
+    go true f g = both-equal private privateBytes shared sharedBytes f
+    go false f g = absurd (h g)
+
+pub acceptedZ80 :
+    (m : Machine) (private shared : ℕ) {answer : ℕ} → answer ≡ refusalZ80 m private shared → answer ≡ accepted
+    → refusalZ80 m private shared ≡ accepted
+acceptedZ80 m private shared e h = sym e ∙ h
+
+-- of the machine it goes by the one bit
+pub refusal-by-bit :
+    (m n : Machine) (private shared : ℕ) → z80Runs m ≡ z80Runs n → refusalZ80 m private shared ≡ refusalZ80 n private shared
+unfolding refusalZ80
+refusal-by-bit m n private shared e = rw e
+
+-- while the Z80 is held, it is refused: by 7, or by 1
+pub refusal-held :
+    (m : Machine) (private shared : ℕ) → z80Runs m ≡ false
+    → refusalZ80 m private shared ≡ cond (lengthsZ80 private shared) z80HeldRefused lengthRefused
+unfolding refusalZ80
+refusal-held m private shared h = rw h (go (lengthsZ80 private shared))
+  where
+    go : (right : Bool) → cond (not right) lengthRefused z80HeldRefused ≡ cond right z80HeldRefused lengthRefused
+    go true = refl
+    go false = refl
 
 pub below0800 : (a : ℕ) → a < sharedFrom → isPrivate a ≡ true
 unfolding isPrivate

@@ -10,11 +10,11 @@ use lib.Dec.{eqb}
 use borrow.Author.Tests.{eqb-true, eqb-false, ltb-true}
 use Rattle.lent.specs.Lengths.{sharedBytes, privateBytes, screenBytes, attributeBytes}
 use Rattle.memories.specs.View8088.{within, seen8088, storeSeen, Stored8088}
-use Rattle.memories.specs.ViewZ80.{sharedFrom, isPrivate, StoredZ80, storedZ80}
+use Rattle.memories.specs.ViewZ80.{refusalZ80, sharedFrom, isPrivate, StoredZ80, storedZ80}
 use Rattle.memories.specs.declared.view8088.Seen.{Seen}
 use Rattle.memories.specs.declared.view8088.Seen.the-variants.{Shared, Screen, Attribute, Nowhere}
 use Rattle.memories.specs.OneByte.{OnlyAt, ChangesTheOneByte, ChangesOneByte}
-use Rattle.memories.proofs.Laws.{told, over, under, lent8088, lentZ80, accepted-lengths}
+use Rattle.memories.proofs.Laws.{told, over, under, lent8088, lentZ80, is-accepted, accepted-lengths}
 
 private-below : (a : ℕ) → isPrivate a ≡ true → a < sharedFrom
 unfolding isPrivate
@@ -75,13 +75,15 @@ changes-the-one-byte shared screen attribute address byte accepts =
         (kept shared address byte, (kept screen (address - 0xEE000) byte, kept attribute (address - 0xEF000) byte))
 
 pub changes-one-byte : ChangesOneByte
-changes-one-byte private shared address byte lent fits = rw (lent) (go (isPrivate address) refl)
+changes-one-byte m private shared address byte accepts fits = rw accepts (go (isPrivate address) refl)
   where
     outcome : Bool → StoredZ80
     outcome b = cond b (storedZ80 0 (set private address byte) shared) (storedZ80 0 private (set shared address byte))
 
     lengths : (length private ≡ privateBytes) × (length shared ≡ sharedBytes)
-    lengths = lentZ80 lent
+    lengths =
+        lentZ80 m (length private) (length shared) refl
+        (λ e. omega (arith, is-accepted (refusalZ80 m (length private) (length shared)) accepts))
 
     go :
         (b : Bool) → isPrivate address ≡ b

@@ -1,4 +1,4 @@
-// What the two processors see of the lent memories. Document 01, "Lent memory".
+// What the two processors see of the lent memories. Document 01, "Lent memory"; document 02, ticket 2.
 pub mod view8088;
 pub mod viewz80;
 

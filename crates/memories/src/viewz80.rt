@@ -1,24 +1,32 @@
 // The Z80's view: its private memory at 0000 to 07FF, and from 0800 the shared byte of the same
-// address. A Z80 address has sixteen bits, so none is refused.
+// address. A Z80 address has sixteen bits, so none is refused; but while the Z80 is held, every access is.
 ghost use mathlib.Core.Path.{_≡_};
-ghost use Rattle.memories.specs.ViewZ80.{lengthsZ80, readZ80, storeZ80, storedZ80};
+ghost use Rattle.memories.specs.ViewZ80.{refusalZ80, readZ80, storeZ80, storedZ80};
 use lent::ByteRead;
+use machine::Machine;
 
 // The first address at which the Z80 sees shared memory.
 const SHARED_FROM: usize = 0x0800;
 
-fn lengths_z80(private: usize, shared: usize) -> bool
-    ensures { λ r. ⌜ r ≡ lengthsZ80 private shared ⌝ }
+// By what an access of the Z80 is refused, with memories of these lengths.
+fn refusal_z80(machine: Machine, private: usize, shared: usize) -> u8
+    ensures { λ r. ⌜ r ≡ refusalZ80 machine private shared ⌝ }
 {
-    lent::two_lengths(private, lent::PRIVATE_BYTES, shared, lent::SHARED_BYTES)
+    let lengths = lent::two_lengths(private, lent::PRIVATE_BYTES, shared, lent::SHARED_BYTES);
+    let runs = machine.z80_runs();
+    if !lengths {
+        return lent::LENGTH;
+    }
+    if runs { lent::ACCEPTED } else { lent::Z80_HELD }
 }
 
 // Reads a byte as the Z80 does.
-pub fn read_z80(private: &[u8], shared: &[u8], address: u16) -> ByteRead
-    ensures { λ r. ⌜ r ≡ readZ80 (now (private .entry)) (now (shared .entry)) address ⌝ }
+pub fn read_z80(machine: Machine, private: &[u8], shared: &[u8], address: u16) -> ByteRead
+    ensures { λ r. ⌜ r ≡ readZ80 machine (now (private .entry)) (now (shared .entry)) address ⌝ }
 {
-    if !lengths_z80(private.len(), shared.len()) {
-        return lent::read_refused(lent::LENGTH);
+    let refusal = refusal_z80(machine, private.len(), shared.len());
+    if refusal != lent::ACCEPTED {
+        return lent::read_refused(refusal);
     }
     let at = address as usize;
     if at < SHARED_FROM {
@@ -29,12 +37,19 @@ pub fn read_z80(private: &[u8], shared: &[u8], address: u16) -> ByteRead
 }
 
 // Stores a byte as the Z80 does. The answer is the number of refusal, 0 where it is accepted.
-pub fn store_z80(private: &mut [u8], shared: &mut [u8], address: u16, byte: u8) -> u8
+pub fn store_z80(
+    machine: Machine,
+    private: &mut [u8],
+    shared: &mut [u8],
+    address: u16,
+    byte: u8,
+) -> u8
     ensures { λ r. ⌜ storedZ80 r (now (private .exit)) (now (shared .exit))
-        ≡ storeZ80 (now (private .entry)) (now (shared .entry)) address byte ⌝ }
+        ≡ storeZ80 machine (now (private .entry)) (now (shared .entry)) address byte ⌝ }
 {
-    if !lengths_z80(private.len(), shared.len()) {
-        return lent::LENGTH;
+    let answer = refusal_z80(machine, private.len(), shared.len());
+    if answer != lent::ACCEPTED {
+        return answer;
     }
     let at = address as usize;
     if at < SHARED_FROM {

@@ -5,6 +5,7 @@ use crate::forms;
 use crate::say;
 use commands::Command;
 use lent::ByteRead;
+use machine::Machine;
 use machine::Written;
 use mending::Stored;
 
@@ -130,27 +131,29 @@ pub fn by_8088(
     );
 }
 
-fn store_z80(command: Command, private: &mut [u8], shared: &mut [u8]) {
+fn store_z80(machine: Machine, command: Command, private: &mut [u8], shared: &mut [u8]) {
     let address = word(command.first);
     let byte = byte(command.second);
     say::done(
         b"stored",
-        memories::store_z80(private, shared, address, byte),
+        memories::store_z80(machine, private, shared, address, byte),
     );
 }
 
-fn read_z80(command: Command, private: &[u8], shared: &[u8]) {
-    say_read(memories::read_z80(private, shared, word(command.first)));
+fn read_z80(machine: Machine, command: Command, private: &[u8], shared: &[u8]) {
+    let address = word(command.first);
+    say_read(memories::read_z80(machine, private, shared, address));
 }
 
 // Obeys a line that is a call of the Z80.
 pub fn by_z80(desk: Desk, command: Command, private: &mut [u8], shared: &mut [u8]) {
     let form = command.form;
+    let machine = desk.machine;
     let a = desk::cut(desk, desk::PRIVATE, private);
     let b = desk::cut(desk, desk::SHARED, shared);
     match form {
-        forms::Z80_STORE => store_z80(command, &mut private[0..a], &mut shared[0..b]),
-        _ => read_z80(command, &private[0..a], &shared[0..b]),
+        forms::Z80_STORE => store_z80(machine, command, &mut private[0..a], &mut shared[0..b]),
+        _ => read_z80(machine, command, &private[0..a], &shared[0..b]),
     }
 }
 

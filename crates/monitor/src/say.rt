@@ -69,6 +69,7 @@ pub fn because(refusal: u8) {
         lent::CODE => line(b": the port has no such code"),
         lent::PLACE => line(b": no such row, scan or place"),
         lent::EDGES => line(b": bits 6 and 7 both rise"),
+        lent::Z80_HELD => line(b": the Z80 is held in reset"),
         _ => line(b": a refusal that the monitor does not know"),
     }
 }
@@ -100,6 +101,7 @@ fn flip_flops(machine: Machine) {
 
 fn port_0a(machine: Machine) {
     byte(b", 0A holds ", machine.held);
+    flag(b", z80 runs", machine.z80_runs());
     flag(b", blanked", machine.blanked());
     flag(b", graphics", machine.graphics());
 }

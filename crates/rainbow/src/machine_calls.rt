@@ -1,7 +1,7 @@
 // The machine: power-up, the vertical tick, its settings and the write ports.
 ghost use mathlib.Core.Path.{_≡_};
 ghost use Rattle.machine.specs.Power.{powerUp, verticalTick};
-ghost use Rattle.machine.specs.Settings.{columns, scrollLatch, blanked, graphics};
+ghost use Rattle.machine.specs.Settings.{columns, scrollLatch, z80Runs, blanked, graphics};
 ghost use Rattle.diagnostic.specs.Diagnostic.{writtenPort};
 ghost use Rattle.ports.specs.Ports.{writePort};
 ghost use Rattle.rainbow.specs.Version.{version};
@@ -9,7 +9,7 @@ use machine::Machine;
 use machine::Written;
 
 // RAINBOW_VERSION of the header.
-const VERSION: u32 = 3;
+const VERSION: u32 = 4;
 
 // The version of the header that this archive was made for.
 #[no_mangle]
@@ -49,6 +49,14 @@ pub extern "C" fn rainbow_scroll_latch(machine: Machine) -> u8
     ensures { λ r. ⌜ r ≡ scrollLatch machine ⌝ }
 {
     machine.scroll_latch()
+}
+
+// Whether the Z80 runs.
+#[no_mangle]
+pub extern "C" fn rainbow_z80_runs(machine: Machine) -> bool
+    ensures { λ r. ⌜ r ≡ z80Runs machine ⌝ }
+{
+    machine.z80_runs()
 }
 
 // Whether the display is blanked.

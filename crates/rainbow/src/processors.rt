@@ -4,6 +4,7 @@ ghost use Rattle.memories.specs.View8088.{read8088, store8088, stored8088};
 ghost use Rattle.memories.specs.ViewZ80.{readZ80, storeZ80, storedZ80};
 ghost use Rattle.shadow.specs.Shadow.{readShadow, writeShadow, writtenShadow};
 use lent::ByteRead;
+use machine::Machine;
 
 // Reads a byte as the 8088 does.
 #[no_mangle]
@@ -36,24 +37,30 @@ pub extern "C" fn rainbow_store_8088(
 
 // Reads a byte as the Z80 does.
 #[no_mangle]
-pub extern "C" fn rainbow_read_z80(private: &[u8], shared: &[u8], address: u16) -> ByteRead
-    ensures { λ r. ⌜ r ≡ readZ80 (now (private .entry)) (now (shared .entry)) address ⌝ }
+pub extern "C" fn rainbow_read_z80(
+    machine: Machine,
+    private: &[u8],
+    shared: &[u8],
+    address: u16,
+) -> ByteRead
+    ensures { λ r. ⌜ r ≡ readZ80 machine (now (private .entry)) (now (shared .entry)) address ⌝ }
 {
-    memories::read_z80(private, shared, address)
+    memories::read_z80(machine, private, shared, address)
 }
 
 // Stores a byte as the Z80 does.
 #[no_mangle]
 pub extern "C" fn rainbow_store_z80(
+    machine: Machine,
     private: &mut [u8],
     shared: &mut [u8],
     address: u16,
     byte: u8,
 ) -> u8
     ensures { λ r. ⌜ storedZ80 r (now (private .exit)) (now (shared .exit))
-        ≡ storeZ80 (now (private .entry)) (now (shared .entry)) address byte ⌝ }
+        ≡ storeZ80 machine (now (private .entry)) (now (shared .entry)) address byte ⌝ }
 {
-    memories::store_z80(private, shared, address, byte)
+    memories::store_z80(machine, private, shared, address, byte)
 }
 
 // Reads the low four bits at a place of the shadow.

@@ -5,14 +5,10 @@ use mathlib.Core.List.{List, [], _∷_}
 use mathlib.Core.Bool.{Bool, true, false, not, cond, _&&_, _||_, true≢false, false≢true, and-false, and-eq-true-iff}
 use native.Mathlib.Omega.{arith}
 use lib.ListN.{length}
-use lib.Dec.{ltb}
 use borrow.Author.Tests.{not-true}
 use Rattle.lent.specs.Refusals.{accepted, refuses, lengthRefused}
 use Rattle.lent.proofs.Tests.{either}
 use Rattle.memories.specs.View8088.{seen8088}
-use Rattle.memories.specs.ViewZ80.{sharedFrom}
-use Rattle.memories.specs.declared.view8088.Seen.{Seen}
-use Rattle.memories.specs.declared.view8088.Seen.the-variants.{Shared as InShared, Screen as InScreen, Attribute as InAttribute, Nowhere}
 use Rattle.memories.proofs.Laws.{lent8088}
 use Rattle.chain.proofs.Searching.{neither}
 use Rattle.picture.specs.Picture.{pictureOf}
@@ -22,10 +18,10 @@ use Rattle.mending.specs.True.{TruePicture}
 use Rattle.mending.proofs.Outcome.{lent-with-picture, wrong-outcome}
 use Rattle.mending.proofs.True.{keeps-true}
 use Rattle.runs.specs.World.{Memory, Shared, Screen, Attribute, Picture, World, Call, Read8088, Store8088, ReadZ80, StoreZ80, ReadShadow, WriteShadow, WritePort, VerticalTick, Draw, StoreWithPicture, GlyphPart, DrawLine, after, answer}
-use Rattle.runs.specs.Reach.{Below0800, From0800, AllOf, has, storedAt, mayChange}
+use Rattle.runs.specs.Reach.{AllOf, has, mayChange}
 use Rattle.runs.specs.Kept.{Lent, Own, Another, lentBytes, keptBytes, lending, keeping, leavesPictureBehind, Step, Made, Lending, stepped, inRuns, TheThreeAreIn, allInRuns, sameColumns, played, playedAll, Kept, KeptByRuns, KeptFromDrawing}
 use Rattle.runs.proofs.Refused.{changes-nothing}
-use Rattle.runs.proofs.Reach.{changes-only, lengths-stay}
+use Rattle.runs.proofs.Reach.{stored-apart, changes-only, lengths-stay}
 
 -- whether a drawing is accepted; no call changes that
 abbrev drawable : World → Bool
@@ -109,22 +105,10 @@ pub the-three-are-in : TheThreeAreIn
 unfolding has
 the-three-are-in address byte port code w = (rw and-false, (refl, refl))
 
--- the store with no picture leaves the picture
-picture-apart : (seen : Seen) → has (storedAt seen) (AllOf Picture) ≡ false
-unfolding has
-picture-apart (InShared place) = go (ltb place sharedFrom)
-  where
-    go : (b : Bool) → has (cond b Below0800 From0800 ∷ []) (AllOf Picture) ≡ false
-    go true = refl
-    go false = refl
-picture-apart (InScreen place) = refl
-picture-apart (InAttribute place) = refl
-picture-apart Nowhere = refl
-
 call-kept :
     (call : Call) (w : World) → leavesPictureBehind call ≡ false → sameColumns w (after call w) ≡ true → Kept w → Kept (after call w)
 unfolding has
-call-kept (Store8088 a b) w h c k = quiet-kept (Store8088 a b) w (picture-apart (seen8088 a)) h c k
+call-kept (Store8088 a b) w h c k = quiet-kept (Store8088 a b) w (stored-apart (seen8088 a) (AllOf Picture) refl) h c k
 call-kept (StoreWithPicture a b) w h c k = store-kept w a b k
 call-kept Draw w h c k = drawing-kept w
 call-kept (Read8088 a) w h c k = k
@@ -138,7 +122,7 @@ call-kept (GlyphPart n) w h c k = k
 call-kept (DrawLine r s) w h c k = quiet-kept (DrawLine r s) w refl h c k
 
 -- a call that was lent other memories and refused leaves the world that is kept
-lending-stays : (lent : Memory → Lent) (call : Call) (w : World) → inRuns (Lending lent call) w ≡ true → stepped (Lending lent call) w ≡ w
+pub lending-stays : (lent : Memory → Lent) (call : Call) (w : World) → inRuns (Lending lent call) w ≡ true → stepped (Lending lent call) w ≡ w
 lending-stays lent call w h =
     ap (keeping lent w) (changes-nothing call (lending lent w) (λ e. false≢true (sym (ap refuses e) ∙ h)) .0)
     ∙ ap (λ (bytes : Memory → List ℕ). record { machine = w .machine; bytes = bytes })

@@ -6,3 +6,4 @@ pub mod Sees
 pub mod Z80
 pub mod Shadow
 pub mod Kept
+pub mod Held

@@ -7,6 +7,7 @@ use Rattle.machine.proofs.Machine.power_up.Reads as power-up
 use Rattle.machine.proofs.Machine.vertical_tick.Reads as vertical-tick
 use Rattle.machine.proofs.Machine.columns.Reads as columns
 use Rattle.machine.proofs.Machine.scroll_latch.Reads as scroll-latch
+use Rattle.machine.proofs.Machine.z80_runs.Reads as z80-runs
 use Rattle.machine.proofs.Machine.blanked.Reads as blanked
 use Rattle.machine.proofs.Machine.graphics.Reads as graphics
 use Rattle.memories.specs.View8088.{stored8088}
@@ -42,6 +43,7 @@ use Rattle.rainbow.proofs.machine_calls.rainbow_power_up.Reads as c-power-up
 use Rattle.rainbow.proofs.machine_calls.rainbow_vertical_tick.Reads as c-vertical-tick
 use Rattle.rainbow.proofs.machine_calls.rainbow_columns.Reads as c-columns
 use Rattle.rainbow.proofs.machine_calls.rainbow_scroll_latch.Reads as c-scroll-latch
+use Rattle.rainbow.proofs.machine_calls.rainbow_z80_runs.Reads as c-z80-runs
 use Rattle.rainbow.proofs.machine_calls.rainbow_blanked.Reads as c-blanked
 use Rattle.rainbow.proofs.machine_calls.rainbow_graphics.Reads as c-graphics
 use Rattle.rainbow.proofs.machine_calls.rainbow_version.Reads as c-version
@@ -75,6 +77,9 @@ columns-once κs a one two = no-second
 pub scroll-latch-once : AnswersOnce scroll-latch.Post
 scroll-latch-once κs a one two = no-second
 
+pub z80-runs-once : AnswersOnce z80-runs.Post
+z80-runs-once κs a one two = no-second
+
 pub blanked-once : AnswersOnce blanked.Post
 blanked-once κs a one two = no-second
 
@@ -90,7 +95,7 @@ store-8088-once κs a one two = no-second
 pub read-z80-once : AnswersOnce read-z80.Post
 read-z80-once κs a one two = no-second
 
-pub store-z80-once : Once store-z80.Post (λ κs r s. storedZ80 r (now (s .0)) (now (s .1 .0)))
+pub store-z80-once : Once store-z80.Post (λ κs r s. storedZ80 r (now (s .1 .0)) (now (s .1 .1 .0)))
 store-z80-once κs a one two = no-second
 
 pub read-shadow-once : AnswersOnce read-shadow.Post
@@ -158,6 +163,9 @@ c-columns-once κs a one two = no-second
 pub c-scroll-latch-once : AnswersOnce c-scroll-latch.Post
 c-scroll-latch-once κs a one two = no-second
 
+pub c-z80-runs-once : AnswersOnce c-z80-runs.Post
+c-z80-runs-once κs a one two = no-second
+
 pub c-blanked-once : AnswersOnce c-blanked.Post
 c-blanked-once κs a one two = no-second
 
@@ -179,7 +187,7 @@ c-store-8088-once κs a one two = no-second
 pub c-read-z80-once : AnswersOnce c-read-z80.Post
 c-read-z80-once κs a one two = no-second
 
-pub c-store-z80-once : Once c-store-z80.Post (λ κs r s. storedZ80 r (now (s .0)) (now (s .1 .0)))
+pub c-store-z80-once : Once c-store-z80.Post (λ κs r s. storedZ80 r (now (s .1 .0)) (now (s .1 .1 .0)))
 c-store-z80-once κs a one two = no-second
 
 pub c-read-shadow-once : AnswersOnce c-read-shadow.Post

@@ -2,7 +2,7 @@
 use Prim.Native.Nat.{ℕ, _+_}
 use mathlib.Core.Path.{_≡_, refl, subst, sym, ap, _∙_}
 use mathlib.Core.List.{List, [], _∷_}
-use mathlib.Core.Bool.{Bool, true, false, not, cond, _&&_, true≢false}
+use mathlib.Core.Bool.{Bool, true, false, not, cond, _&&_, _||_, true≢false}
 use native.Mathlib.Omega.{arith}
 use lib.ListN.{length, set, take, drop, length-set}
 use lib.Seq.{take-set-le, drop-set-lt}
@@ -11,6 +11,7 @@ use borrow.Author.Tests.{ltb-true, ltb-false, eqb-false, ne-eqb, not-false}
 use Rattle.lent.specs.Lengths.{shadowBytes, nvmBytes, pictureBytes, lineBytes}
 use Rattle.lent.specs.Refusals.{accepted, refuses, lengthRefused, placeRefused}
 use Rattle.lent.proofs.Tests.{either}
+use Rattle.machine.specs.Settings.{z80Runs}
 use Rattle.machine.specs.declared.Machine.{Machine}
 use Rattle.memories.specs.View8088.{seen8088}
 use Rattle.memories.specs.ViewZ80.{sharedFrom, isPrivate}
@@ -31,11 +32,12 @@ use Rattle.scan_line.specs.Call.{lengthsLine, onTube, refusalLine, DrawnLine}
 use Rattle.scan_line.proofs.Laws.{lentLine}
 use Rattle.scan_line.proofs.Line.{line-sized}
 use Rattle.runs.specs.World.{Memory, Shared, Private, Screen, Attribute, Glyphs, Nvm, Shadow, Picture, Line, numberOf, isMemory, World, withMachine, withBytes, Read8088, Store8088, ReadZ80, StoreZ80, ReadShadow, WriteShadow, WritePort, VerticalTick, Draw, StoreWithPicture, GlyphPart, DrawLine, after}
-use Rattle.runs.specs.Reach.{Part, TheMachine, Below0800, From0800, AllOf, numberOfPart, has, Same, storedAt, ChangesOnly, LengthsStay}
+use Rattle.runs.specs.Reach.{Part, TheMachine, Z80Bit, Below0800, From0800, AllOf, numberOfPart, has, Same, storedAt, ChangesOnly, LengthsStay}
 use Rattle.runs.proofs.Worlds.{with-length, storedIn, stored-length, refused8088, store-refused, store-accepted, refusedZ80, z80-refused, z80-private, z80-shared, not-below, mendedIn, refusedWithPicture, picture-refused, picture-accepted}
 
 pub same-refl : (part : Part) (w : World) → Same part w w
 same-refl TheMachine w = refl
+same-refl Z80Bit w = refl
 same-refl Below0800 w = refl
 same-refl From0800 w = refl
 same-refl (AllOf memory) w = refl
@@ -47,6 +49,7 @@ same-by part u u′ v v′ e f h =
 
 pub same-trans : (part : Part) (u w v : World) → Same part u w → Same part w v → Same part u v
 same-trans TheMachine u w v p q = p ∙ q
+same-trans Z80Bit u w v p q = p ∙ q
 same-trans Below0800 u w v p q = p ∙ q
 same-trans From0800 u w v p q = p ∙ q
 same-trans (AllOf memory) u w v p q = p ∙ q
@@ -62,13 +65,14 @@ other-memory :
     (memory one : Memory) → eqb (numberOfPart (AllOf one)) (numberOfPart (AllOf memory)) ≡ false → isMemory one memory ≡ false
 other-memory memory one h =
     ne-eqb (numberOf one) (numberOf memory)
-    (λ e. eqb-false (3 + numberOf one) (3 + numberOf memory) h (ap (λ (n : ℕ). 3 + n) e))
+    (λ e. eqb-false (4 + numberOf one) (4 + numberOf memory) h (ap (λ (n : ℕ). 4 + n) e))
 
 -- other bytes in a memory that is not shared memory leave every part but that memory
 with-leaves :
     (memory : Memory) (new : List ℕ) (w : World) → isMemory Shared memory ≡ false
     → (part : Part) → eqb (numberOfPart part) (numberOfPart (AllOf memory)) ≡ false → Same part (withBytes memory new w) w
 with-leaves memory new w other TheMachine h = refl
+with-leaves memory new w other Z80Bit h = refl
 with-leaves memory new w other Below0800 h = rw other
 with-leaves memory new w other From0800 h = rw other
 with-leaves memory new w other (AllOf one) h = rw (other-memory memory one h)
@@ -81,6 +85,7 @@ module _ (w : World) (place byte : ℕ) where
   shared-leaves :
       (part : Part) → has (AllOf Shared ∷ half ∷ []) part ≡ false → Same part (withBytes Shared (set (w .bytes Shared) place byte) w) w
   shared-leaves TheMachine h = refl
+  shared-leaves Z80Bit h = refl
   shared-leaves Below0800 h = go (ltb place sharedFrom) refl (apart half [] _ (apart (AllOf Shared) (half ∷ []) _ h .1) .0)
     where
       go :
@@ -157,13 +162,47 @@ stored-leaves (InScreen place) byte w part h = with-leaves Screen _ w refl part 
 stored-leaves (InAttribute place) byte w part h = with-leaves Attribute _ w refl part (apart (AllOf Attribute) [] part h .0)
 stored-leaves Nowhere byte w part h = same-refl part w
 
+-- a store of the 8088 may change its three memories and no other part
+pub stored-apart :
+    (seen : Seen) (part : Part) → has (AllOf Shared ∷ Below0800 ∷ From0800 ∷ AllOf Screen ∷ AllOf Attribute ∷ []) part ≡ false
+    → has (storedAt seen) part ≡ false
+unfolding has
+stored-apart seen part h = go seen
+  where
+    n : ℕ
+    n = numberOfPart part
+
+    shared : (eqb n 4 ≡ false) × (eqb n 2 || (eqb n 3 || (eqb n 6 || (eqb n 7 || false))) ≡ false)
+    shared = neither (eqb n 4) _ h
+
+    below : (eqb n 2 ≡ false) × (eqb n 3 || (eqb n 6 || (eqb n 7 || false)) ≡ false)
+    below = neither (eqb n 2) _ (shared .1)
+
+    from : (eqb n 3 ≡ false) × (eqb n 6 || (eqb n 7 || false) ≡ false)
+    from = neither (eqb n 3) _ (below .1)
+
+    screens : (eqb n 6 ≡ false) × (eqb n 7 || false ≡ false)
+    screens = neither (eqb n 6) _ (from .1)
+
+    halves : (b : Bool) → eqb n 4 || (eqb n (numberOfPart (cond b Below0800 From0800)) || false) ≡ false
+    halves true = rw (shared .0, below .0)
+    halves false = rw (shared .0, from .0)
+
+    go : (one : Seen) → has (storedAt one) part ≡ false
+    go (InShared place) = halves (ltb place sharedFrom)
+    go (InScreen place) = rw (screens .0)
+    go (InAttribute place) = screens .1
+    go Nowhere = refl
+
+-- another machine leaves every part but the machine, and the bit too if it is the same
 machine-leaves :
     (m : Machine) (w : World) (part : Part) → eqb (numberOfPart part) (numberOfPart TheMachine) ≡ false
-    → Same part (withMachine m w) w
-machine-leaves m w TheMachine h = absurd (true≢false h)
-machine-leaves m w Below0800 h = refl
-machine-leaves m w From0800 h = refl
-machine-leaves m w (AllOf memory) h = refl
+    → (part ≡ Z80Bit → z80Runs m ≡ z80Runs (w .machine)) → Same part (withMachine m w) w
+machine-leaves m w TheMachine h b = absurd (true≢false h)
+machine-leaves m w Z80Bit h b = b refl
+machine-leaves m w Below0800 h b = refl
+machine-leaves m w From0800 h b = refl
+machine-leaves m w (AllOf memory) h b = refl
 
 pub changes-only : ChangesOnly
 changes-only (Read8088 a) w part h = same-refl part w
@@ -186,14 +225,16 @@ changes-only (ReadShadow p) w part h = same-refl part w
 changes-only (WriteShadow p b) w part h = with-leaves Shadow _ w refl part (apart (AllOf Shadow) [] part h .0)
 changes-only (WritePort p k) w part h =
     let left = writePort (w .machine) (w .bytes Shadow) (w .bytes Nvm) p k in
-    let aside = apart TheMachine (AllOf Shadow ∷ AllOf Nvm ∷ []) part h in
-    let later = apart (AllOf Shadow) (AllOf Nvm ∷ []) part (aside .1) in
+    let aside = apart TheMachine (Z80Bit ∷ AllOf Shadow ∷ AllOf Nvm ∷ []) part h in
+    let bit = apart Z80Bit (AllOf Shadow ∷ AllOf Nvm ∷ []) part (aside .1) in
+    let later = apart (AllOf Shadow) (AllOf Nvm ∷ []) part (bit .1) in
     let saved = withBytes Nvm (left .nvm) w in
     let recalled = withBytes Shadow (left .shadow) saved in
-    same-trans part (after (WritePort p k) w) recalled w (machine-leaves (left .answer .machine) recalled part (aside .0))
+    same-trans part (after (WritePort p k) w) recalled w
+    (machine-leaves (left .answer .machine) recalled part (aside .0) (λ is. absurd (true≢false (rw is at bit .0))))
     (same-trans part recalled saved w (with-leaves Shadow (left .shadow) saved refl part (later .0))
     (with-leaves Nvm (left .nvm) w refl part (apart (AllOf Nvm) [] part (later .1) .0)))
-changes-only VerticalTick w part h = machine-leaves _ w part (apart TheMachine [] part h .0)
+changes-only VerticalTick w part h = machine-leaves _ w part (apart TheMachine [] part h .0) (λ _. refl)
 changes-only Draw w part h = with-leaves Picture _ w refl part (apart (AllOf Picture) [] part h .0)
 changes-only (StoreWithPicture a b) w part h = go (refusedWithPicture a w) refl
   where

@@ -104,9 +104,10 @@ changes-nothing (Store8088 a b) w h =
   where
     Kept : Stored8088 → Type 0
     Kept left = (left .refusal ≡ accepted → ⊥) → (left8088 left w ≡ w) × AllZero []
-changes-nothing (ReadZ80 a) w h = (refl, silent (refusalZ80 (w .bytes Private) (w .bytes Shared)) _ h)
+changes-nothing (ReadZ80 a) w h =
+    (refl, silent (refusalZ80 (w .machine) (length (w .bytes Private)) (length (w .bytes Shared))) _ h)
 changes-nothing (StoreZ80 a b) w h =
-    either Kept (refuses (refusalZ80 (w .bytes Private) (w .bytes Shared))) _ _
+    either Kept (refuses (refusalZ80 (w .machine) (length (w .bytes Private)) (length (w .bytes Shared)))) _ _
     (λ _ g. (
       ap (withBytes Private (w .bytes Private)) (with-own Shared (w .bytes Shared) w refl) ∙ with-own Private (w .bytes Private) w refl,
       tt,

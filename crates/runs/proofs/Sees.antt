@@ -11,12 +11,13 @@ use borrow.Author.Tests.{ltb-true, ltb-false}
 use Rattle.lent.specs.Refusals.{accepted, refuses}
 use Rattle.lent.proofs.Tests.{either}
 use Rattle.machine.specs.Power.{verticalTick}
+use Rattle.machine.specs.Settings.{z80Runs}
 use Rattle.machine.specs.declared.Machine.{Machine}
 use Rattle.memories.specs.View8088.{seen8088, refusal8088, storeSeen}
 use Rattle.memories.specs.ViewZ80.{sharedFrom, isPrivate, seenZ80, refusalZ80, StoredZ80, storeZ80}
 use Rattle.memories.specs.declared.view8088.Seen.{Seen}
 use Rattle.memories.specs.declared.view8088.Seen.the-variants.{Shared as InShared, Screen as InScreen, Attribute as InAttribute, Nowhere}
-use Rattle.memories.proofs.Laws.{is-accepted, store-refusal}
+use Rattle.memories.proofs.Laws.{refusal-by-bit, is-accepted, store-refusal}
 use Rattle.shadow.specs.Shadow.{refusalShadow, WrittenShadow, writeShadow}
 use Rattle.diagnostic.specs.Diagnostic.{WrittenPort}
 use Rattle.ports.specs.Ports.{writePort}
@@ -25,7 +26,7 @@ use Rattle.mending.specs.Mending.{marksOf}
 use Rattle.mending.proofs.Outcome.{accepts}
 use Rattle.scan_line.specs.Call.{refusalLine, DrawnLine, drawLine}
 use Rattle.runs.specs.World.{Memory, Shared, Private, Screen, Attribute, Glyphs, Nvm, Shadow, Picture, Line, isMemory, World, withMachine, withBytes, answered, drawnAnswer, Read8088, Store8088, ReadZ80, StoreZ80, ReadShadow, WriteShadow, WritePort, VerticalTick, Draw, StoreWithPicture, GlyphPart, DrawLine, after, answer}
-use Rattle.runs.specs.Reach.{Part, TheMachine, Below0800, From0800, AllOf, has, hasMemory, Same, Alike, SeesOnly}
+use Rattle.runs.specs.Reach.{Part, TheMachine, Z80Bit, Below0800, From0800, AllOf, has, hasMemory, Same, Alike, SeesOnly}
 use Rattle.runs.proofs.Worlds.{is-memory, storedIn, refused8088, store-refused, store-accepted, refusedZ80, z80-refused, z80-private, z80-shared, not-below, mendedIn, refusedWithPicture, picture-refused, picture-accepted}
 use Rattle.runs.proofs.Reach.{same-by}
 
@@ -80,6 +81,7 @@ module _ (memory : Memory) (x y : List ℕ) (w v : World) (new : Same (AllOf mem
   with-alike :
       isMemory Shared memory ≡ false → (part : Part) → Same part w v → Same part (withBytes memory x w) (withBytes memory y v)
   with-alike other TheMachine s = s
+  with-alike other Z80Bit s = s
   with-alike other Below0800 s = rw other s
   with-alike other From0800 s = rw other s
   with-alike other (AllOf one) s = whole-alike one s
@@ -88,6 +90,7 @@ shared-alike :
     (place byte : ℕ) (w v : World) (part : Part) → Same part w v
     → Same part (withBytes Shared (set (w .bytes Shared) place byte) w) (withBytes Shared (set (v .bytes Shared) place byte) v)
 shared-alike place byte w v TheMachine s = s
+shared-alike place byte w v Z80Bit s = s
 shared-alike place byte w v Below0800 s =
     take-set sharedFrom (w .bytes Shared) place byte ∙ ap (λ (l : List ℕ). set l place byte) s
     ∙ sym (take-set sharedFrom (v .bytes Shared) place byte)
@@ -117,7 +120,8 @@ stores-alike a b w v e part s = go (refused8088 a w) refl
         (store-accepted a b v (sym (ap refuses e) ∙ h)) (stored-alike (seen8088 a) b w v part s)
 
 z80-alike :
-    (a b : ℕ) (w v : World) → refusalZ80 (w .bytes Private) (w .bytes Shared) ≡ refusalZ80 (v .bytes Private) (v .bytes Shared)
+    (a b : ℕ) (w v : World)
+    → refusalZ80 (w .machine) (length (w .bytes Private)) (length (w .bytes Shared)) ≡ refusalZ80 (v .machine) (length (v .bytes Private)) (length (v .bytes Shared))
     → (part : Part) → Same part w v → Same part (after (StoreZ80 a b) w) (after (StoreZ80 a b) v)
 z80-alike a b w v e part s = go (refusedZ80 w) (isPrivate a) refl refl
   where
@@ -130,23 +134,26 @@ z80-alike a b w v e part s = go (refusedZ80 w) (isPrivate a) refl refl
         same-by part _ _ _ _ (z80-shared a b w h k) (z80-shared a b v (sym (ap refuses e) ∙ h) k) (shared-alike a b w v part s)
 
 machine-alike :
-    (m n : Machine) (w v : World) → (Same TheMachine w v → m ≡ n) → (part : Part) → Same part w v
-    → Same part (withMachine m w) (withMachine n v)
-machine-alike m n w v new TheMachine s = new s
-machine-alike m n w v new Below0800 s = s
-machine-alike m n w v new From0800 s = s
-machine-alike m n w v new (AllOf memory) s = s
+    (m n : Machine) (w v : World) → (Same TheMachine w v → m ≡ n) → (Same Z80Bit w v → z80Runs m ≡ z80Runs n)
+    → (part : Part) → Same part w v → Same part (withMachine m w) (withMachine n v)
+machine-alike m n w v new bit TheMachine s = new s
+machine-alike m n w v new bit Z80Bit s = bit s
+machine-alike m n w v new bit Below0800 s = s
+machine-alike m n w v new bit From0800 s = s
+machine-alike m n w v new bit (AllOf memory) s = s
 
 -- the number that a call answers is that of its refusal
-told :
+pub told :
     {O : Type 0} (number : O → ℕ) (refusal : ℕ) (x y : O) → number x ≡ refusal → number y ≡ accepted
     → number (cond (refuses refusal) x y) ≡ refusal
 told number refusal x y p q =
     either (λ o. number o ≡ refusal) (refuses refusal) x y (λ _. p) (λ h. q ∙ sym (is-accepted refusal h))
 
-z80-told : (a b : ℕ) (private shared : List ℕ) → storeZ80 private shared a b .refusal ≡ refusalZ80 private shared
-z80-told a b private shared =
-    told (λ (left : StoredZ80). left .refusal) (refusalZ80 private shared) _ _ refl
+pub z80-told :
+    (m : Machine) (a b : ℕ) (private shared : List ℕ)
+    → storeZ80 m private shared a b .refusal ≡ refusalZ80 m (length private) (length shared)
+z80-told m a b private shared =
+    told (λ (left : StoredZ80). left .refusal) (refusalZ80 m (length private) (length shared)) _ _ refl
     (either (λ (left : StoredZ80). left .refusal ≡ accepted) (isPrivate a) _ _ (λ _. refl) (λ _. refl))
 
 shadow-told : (p b : ℕ) (shadow : List ℕ) → writeShadow shadow p b .refusal ≡ refusalShadow shadow p
@@ -250,15 +257,19 @@ sees-only (ReadZ80 a) w v c = (
   rw (
     c .seen (AllOf Private) refl,
     c .lengths Shared refl,
+    refusal-by-bit (w .machine) (v .machine) (length (v .bytes Private)) (length (v .bytes Shared)) (c .seen Z80Bit refl),
     seen-same (v .bytes Private) (w .bytes Shared) (v .bytes Shared) a (c .seen From0800 refl),
   ),
   λ part s. s,
 )
 sees-only (StoreZ80 a b) w v c =
-    let same : refusalZ80 (w .bytes Private) (w .bytes Shared) ≡ refusalZ80 (v .bytes Private) (v .bytes Shared) =
-    rw (c .lengths Private refl, c .lengths Shared refl) in (
+    let same : refusalZ80 (w .machine) (length (w .bytes Private)) (length (w .bytes Shared))
+    ≡ refusalZ80 (v .machine) (length (v .bytes Private)) (length (v .bytes Shared)) =
+    rw (c .lengths Private refl, c .lengths Shared refl)
+    (refusal-by-bit (w .machine) (v .machine) (length (v .bytes Private)) (length (v .bytes Shared)) (c .seen Z80Bit refl)) in (
       ap (λ (n : ℕ). answered n [])
-          (z80-told a b (w .bytes Private) (w .bytes Shared) ∙ same ∙ sym (z80-told a b (v .bytes Private) (v .bytes Shared))),
+          (z80-told (w .machine) a b (w .bytes Private) (w .bytes Shared) ∙ same
+          ∙ sym (z80-told (v .machine) a b (v .bytes Private) (v .bytes Shared))),
       z80-alike a b w v same,
     )
 sees-only (ReadShadow p) w v c = (rw (c .seen (AllOf Shadow) refl), λ part s. s)
@@ -274,11 +285,12 @@ sees-only (WritePort p k) w v c =
     let saved = withBytes Nvm (left .nvm) w in
     let saved′ = withBytes Nvm (right .nvm) v in (
       ap (λ (l : WrittenPort). answered (l .answer .refusal) []) same,
-      λ part s. machine-alike _ _ _ _ (λ _. ap (λ (l : WrittenPort). l .answer .machine) same) part
+      λ part s. machine-alike _ _ _ _ (λ _. ap (λ (l : WrittenPort). l .answer .machine) same)
+          (λ _. ap (λ (l : WrittenPort). z80Runs (l .answer .machine)) same) part
           (with-alike Shadow _ _ saved saved′ (λ _. ap (λ (l : WrittenPort). l .shadow) same) refl part
           (with-alike Nvm _ _ w v (λ _. ap (λ (l : WrittenPort). l .nvm) same) refl part s)),
     )
-sees-only VerticalTick w v c = (refl, machine-alike _ _ w v (λ e. ap verticalTick e))
+sees-only VerticalTick w v c = (refl, machine-alike _ _ w v (λ e. ap verticalTick e) (λ e. e))
 sees-only Draw w v c =
     let m = c .seen TheMachine refl in
     let screen = c .seen (AllOf Screen) refl in

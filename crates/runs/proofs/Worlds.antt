@@ -122,7 +122,7 @@ pub store-accepted :
 store-accepted address byte w e = rw e (stored-in (seen8088 address) byte w)
 
 abbrev pub refusedZ80 : World → Bool
-refusedZ80 w = refuses (refusalZ80 (w .bytes Private) (w .bytes Shared))
+refusedZ80 w = refuses (refusalZ80 (w .machine) (length (w .bytes Private)) (length (w .bytes Shared)))
 
 pub z80-refused : (address byte : ℕ) (w : World) → refusedZ80 w ≡ true → after (StoreZ80 address byte) w ≡ w
 z80-refused address byte w e =

@@ -1,18 +1,27 @@
 -- What a Z80 call leaves alone, and what a Z80 answer depends on: the statements of specs/Z80.antt.
-use Prim.Native.Nat.{ℕ, _+_}
+use Prim.Native.Nat.{ℕ}
 use mathlib.Core.Path.{_≡_, refl, sym, ap, _∙_}
 use mathlib.Core.List.{List, [], _∷_}
-use mathlib.Core.Bool.{Bool, true, false, not, cond, _||_, true≢false, false≢true}
+use mathlib.Core.Bool.{Bool, true, false, not, cond, _&&_, _||_, and-false, true≢false, false≢true}
 use native.Mathlib.Omega.{arith}
 use lib.ListN.{length}
-use lib.Dec.{eqb}
-use borrow.Author.Tests.{eqb-true, eq-eqb, not-true}
+use lib.Dec.{eqb, leb}
+use borrow.Author.Tests.{eqb-true, ne-eqb, not-true}
+use Rattle.lent.specs.Refusals.{refuses}
+use Rattle.lent.proofs.Tests.{either}
+use Rattle.machine.specs.Settings.{bit, z80Runs}
+use Rattle.machine.specs.declared.Machine.{Machine}
+use Rattle.machine.specs.declared.Written.{Written}
+use Rattle.dc011.specs.Dc011.{dc011Code, writeDc011}
+use Rattle.dc012.specs.Dc012.{writeDc012}
+use Rattle.diagnostic.specs.Diagnostic.{WrittenPort, writtenPort, rises}
+use Rattle.ports.specs.Ports.{lengthsNvm, isPort, watched}
 use Rattle.memories.specs.View8088.{seen8088, refusal8088}
 use Rattle.chain.proofs.Searching.{neither}
-use Rattle.runs.specs.World.{Memory, Shared, Private, Screen, Attribute, Picture, numberOf, isMemory, World, withBytes, Call, Read8088, Store8088, ReadZ80, StoreZ80, ReadShadow, WriteShadow, WritePort, VerticalTick, Draw, StoreWithPicture, GlyphPart, DrawLine, after, answer}
-use Rattle.runs.specs.Reach.{Part, TheMachine, Below0800, From0800, AllOf, numberOfPart, has, hasMemory, Same, mayChange, Alike}
-use Rattle.runs.specs.Z80.{onlyParts, onlyMemories, z80Lent, z80Sees, isZ80, ItsTwoCalls, OnlyItsOwn, Agree, unseenByZ80, Both, LeftAlone, RightAlone, left, right, answers, storesInBoth, SameLengths, SameAnswers}
-use Rattle.runs.proofs.Worlds.{is-memory, storedIn, mendedIn, refusedWithPicture, picture-refused, picture-accepted}
+use Rattle.runs.specs.World.{Memory, Shared, Private, Screen, Attribute, Glyphs, Nvm, Shadow, Picture, Line, isMemory, World, withBytes, Call, Read8088, Store8088, ReadZ80, StoreZ80, ReadShadow, WriteShadow, WritePort, VerticalTick, Draw, StoreWithPicture, GlyphPart, DrawLine, after, answer}
+use Rattle.runs.specs.Reach.{Part, TheMachine, Z80Bit, Below0800, From0800, AllOf, numberOfPart, has, hasMemory, Same, mayChange, Alike}
+use Rattle.runs.specs.Z80.{onlyParts, onlyMemories, z80Lent, z80Sees, isZ80, ItsTwoCalls, OnlyItsOwn, runsAfter, BitFromCode, CodeHas, Agree, unseenByZ80, Turn, Both, LeftAlone, RightAlone, left, right, answers, SameBit, storesInBoth, SameLengths, SameAnswers, CodesHave, SameBitByCodes}
+use Rattle.runs.proofs.Worlds.{is-memory, mendedIn, refusedWithPicture, picture-refused, picture-accepted}
 use Rattle.runs.proofs.Reach.{same-refl, same-by, changes-only, lengths-stay}
 use Rattle.runs.proofs.Sees.{stored-alike, stores-alike, sees-only}
 
@@ -20,20 +29,98 @@ pub its-two-calls : ItsTwoCalls
 unfolding onlyParts onlyMemories has hasMemory
 its-two-calls address byte = (refl, refl)
 
-pub only-its-own : OnlyItsOwn
+-- what holds of these two holds of every call that is the Z80's
+pub of-z80 :
+    (P : Call → Type 0) → ((a : ℕ) → P (ReadZ80 a)) → ((a b : ℕ) → P (StoreZ80 a b)) → (call : Call) → isZ80 call ≡ true → P call
 unfolding onlyParts onlyMemories has hasMemory
-only-its-own (ReadZ80 a) w part is h = same-refl part w
-only-its-own (StoreZ80 a b) w part is h = changes-only (StoreZ80 a b) w part h
-only-its-own (Read8088 a) w part is h = absurd (false≢true is)
-only-its-own (Store8088 a b) w part is h = absurd (false≢true is)
-only-its-own (ReadShadow p) w part is h = absurd (false≢true is)
-only-its-own (WriteShadow p b) w part is h = absurd (false≢true is)
-only-its-own (WritePort p k) w part is h = absurd (false≢true is)
-only-its-own VerticalTick w part is h = absurd (false≢true is)
-only-its-own Draw w part is h = absurd (false≢true is)
-only-its-own (StoreWithPicture a b) w part is h = absurd (false≢true is)
-only-its-own (GlyphPart k) w part is h = absurd (false≢true is)
-only-its-own (DrawLine r s) w part is h = absurd (false≢true is)
+of-z80 P reads stores (ReadZ80 a) is = reads a
+of-z80 P reads stores (StoreZ80 a b) is = stores a b
+of-z80 P reads stores (Read8088 a) is = absurd (false≢true is)
+of-z80 P reads stores (Store8088 a b) is = absurd (false≢true is)
+of-z80 P reads stores (ReadShadow p) is = absurd (false≢true is)
+of-z80 P reads stores (WriteShadow p b) is = absurd (false≢true is)
+of-z80 P reads stores (WritePort p k) is = absurd (false≢true is)
+of-z80 P reads stores VerticalTick is = absurd (false≢true is)
+of-z80 P reads stores Draw is = absurd (false≢true is)
+of-z80 P reads stores (StoreWithPicture a b) is = absurd (false≢true is)
+of-z80 P reads stores (GlyphPart k) is = absurd (false≢true is)
+of-z80 P reads stores (DrawLine r s) is = absurd (false≢true is)
+
+pub only-its-own : OnlyItsOwn
+only-its-own call w part is h =
+    of-z80 (λ (one : Call). Same part (after one w) w) (λ a. same-refl part w) (λ a b. changes-only (StoreZ80 a b) w part h) call is
+
+-- the DC011 and the DC012 leave the byte that port 0A holds
+module _ (m : Machine) where
+  abbrev Holds : Written → Type 0
+  Holds written = written .machine .held ≡ m .held
+
+  listed : (test : Bool) (one other : Written) → Holds one → Holds other → Holds (cond test one other)
+  listed test one other h k = either Holds test one other (λ _. h) (λ _. k)
+
+  dc011-holds : (code : ℕ) → Holds (writeDc011 m code)
+  dc011-holds code =
+      listed (not (dc011Code code)) _ _ refl
+      (listed (eqb code 0x00) _ _ refl (listed (eqb code 0x10) _ _ refl (listed (eqb code 0x20) _ _ refl refl)))
+
+  dc012-holds : (code : ℕ) → Holds (writeDc012 m code)
+  dc012-holds code =
+      listed (leb 0x0C code) _ _ refl
+      (listed (leb code 0x03) _ _ refl
+      (listed (leb code 0x07) _ _ refl
+      (listed (eqb code 0x08) _ _ refl (listed (eqb code 0x09) _ _ refl (listed (eqb code 0x0A) _ _ refl refl)))))
+
+  watched-holds : (code : ℕ) (enabled : Bool) → Holds (watched (writeDc012 m code) enabled)
+  watched-holds code enabled =
+      listed (refuses (writeDc012 m code .refusal)) _ _ (dc012-holds code) (dc012-holds code)
+
+pub bit-from-code : BitFromCode
+bit-from-code w port code =
+    either From (not (lengthsNvm (length (w .bytes Shadow)) (length (w .bytes Nvm)))) _ _ (λ _. rw and-false)
+    (λ _. either From (not (isPort port)) _ _ (λ _. rw and-false)
+    (λ _. either From (eqb port 0x04) _ _
+    (λ is. chip (writeDc011 m code) (ne-eqb port 0x0A (λ e. omega (arith, eqb-true port 0x04 is))) (dc011-holds m code))
+    (λ _. either From (eqb port 0x0A) _ _
+    (λ is. rw is (either At0A (rises 6 (m .held) code && rises 7 (m .held) code) _ _ (λ _. refl) (λ _. refl)))
+    (λ other. either From (eqb port 0x0C) _ _
+    (λ _. chip (watched (writeDc012 m code) true) other (watched-holds m code true))
+    (λ _. chip (watched (writeDc012 m code) false) other (watched-holds m code false))))))
+  where
+    m : Machine
+    m = w .machine
+
+    From : WrittenPort → Type 0
+    From done = z80Runs (done .answer .machine) ≡ runsAfter port code (done .answer .refusal) (z80Runs m)
+
+    At0A : WrittenPort → Type 0
+    At0A done = z80Runs (done .answer .machine) ≡ runsAfter 0x0A code (done .answer .refusal) (z80Runs m)
+
+    chip :
+        (written : Written) → eqb port 0x0A ≡ false → written .machine .held ≡ m .held
+        → From (writtenPort written (w .bytes Shadow) (w .bytes Nvm))
+    chip written other held = rw (other, held)
+
+-- a call keeps the bit if each code that it writes to port 0A has it
+pub keeps-the-bit :
+    (call : Call) (w : World) (runs : Bool) → z80Runs (w .machine) ≡ runs → CodeHas runs call → z80Runs (after call w .machine) ≡ runs
+keeps-the-bit (WritePort p k) w runs h codes =
+    bit-from-code w p k ∙ go (eqb p 0x0A) (not (refuses (answer (WritePort p k) w .refusal))) refl
+  where
+    go : (at accepts : Bool) → eqb p 0x0A ≡ at → cond (at && accepts) (eqb (bit 0 k) 1) (z80Runs (w .machine)) ≡ runs
+    go true true e = codes k (ap (λ (port : ℕ). WritePort port k) (eqb-true p 0x0A e))
+    go true false e = h
+    go false accepts e = h
+keeps-the-bit (Store8088 a b) w runs h codes = h
+keeps-the-bit (StoreWithPicture a b) w runs h codes = h
+keeps-the-bit (Read8088 a) w runs h codes = h
+keeps-the-bit (ReadZ80 a) w runs h codes = h
+keeps-the-bit (StoreZ80 a b) w runs h codes = h
+keeps-the-bit (ReadShadow p) w runs h codes = h
+keeps-the-bit (WriteShadow p b) w runs h codes = h
+keeps-the-bit VerticalTick w runs h codes = h
+keeps-the-bit Draw w runs h codes = h
+keeps-the-bit (GlyphPart k) w runs h codes = h
+keeps-the-bit (DrawLine r s) w runs h codes = h
 
 agree-sym : {w v : World} → Agree w v → Agree v w
 agree-sym h =
@@ -56,6 +143,36 @@ unseen call w h =
       shared-length = lengths-stay call w Shared;
       from0800 = changes-only call w From0800 (none .1);
     }
+
+-- what a store with a picture does to a part goes by the lengths and the address, if the picture does not
+pub pictures-alike :
+    (a b : ℕ) (w v : World) → SameLengths w v → (part : Part) → Same part w v
+    → Same part (withBytes Picture (mendedIn a b w) w) (withBytes Picture (mendedIn a b v) v)
+    → Same part (after (StoreWithPicture a b) w) (after (StoreWithPicture a b) v)
+pictures-alike a b w v lengths part same drawn = go (refusedWithPicture a w) refl
+  where
+    alike : refusedWithPicture a w ≡ refusedWithPicture a v
+    alike = rw (lengths Shared, lengths Screen, lengths Attribute, lengths Picture)
+
+    go : (r : Bool) → refusedWithPicture a w ≡ r → Same part (after (StoreWithPicture a b) w) (after (StoreWithPicture a b) v)
+    go true e = same-by part _ w _ v (picture-refused a b w e) (picture-refused a b v (sym alike ∙ e)) same
+    go false e =
+        same-by part _ _ _ _ (picture-accepted a b w e) (picture-accepted a b v (sym alike ∙ e))
+        (stored-alike (seen8088 a) b _ _ part drawn)
+
+-- what a store with no picture does goes by the same
+pub stores-by-length :
+    (a b : ℕ) (w v : World) → SameLengths w v → (part : Part) → Same part w v
+    → Same part (after (Store8088 a b) w) (after (Store8088 a b) v)
+stores-by-length a b w v lengths =
+    let alike : refusal8088 (w .bytes Shared) (w .bytes Screen) (w .bytes Attribute) a
+    ≡ refusal8088 (v .bytes Shared) (v .bytes Screen) (v .bytes Attribute) a =
+    rw (lengths Shared, lengths Screen, lengths Attribute) in
+    stores-alike a b w v alike
+
+first-of : (one rest : Bool) → one || false ≡ true → one || rest ≡ true
+first-of true rest h = refl
+first-of false rest h = absurd (false≢true h)
 
 module _ (w v : World) (same : Agree w v) where
   -- the lengths of two worlds that agree are as long after a call as before it
@@ -81,78 +198,51 @@ module _ (w v : World) (same : Agree w v) where
       go false true e f g = rw (is-memory memory Shared f) (same .shared-length)
       go false false e f g = absurd (false≢true g)
 
-  sees-same : (part : Part) → has z80Sees part ≡ true → Same part w v
+  sees-same : Same Z80Bit w v → (part : Part) → has z80Sees part ≡ true → Same part w v
   unfolding has
-  sees-same TheMachine h = absurd (false≢true h)
-  sees-same Below0800 h = absurd (false≢true h)
-  sees-same From0800 h = same .from0800
-  sees-same (AllOf memory) h = go (eqb (numberOfPart (AllOf memory)) (numberOfPart (AllOf Private))) refl h
-    where
-      go :
-          (b : Bool) → eqb (numberOfPart (AllOf memory)) (numberOfPart (AllOf Private)) ≡ b
-          → b || (eqb (numberOfPart (AllOf memory)) (numberOfPart From0800) || false) ≡ true → w .bytes memory ≡ v .bytes memory
-      go true e g =
-          let is : numberOf memory ≡ numberOf Private = omega (arith, eqb-true (3 + numberOf memory) (3 + numberOf Private) e) in
-          rw (is-memory memory Private (eq-eqb (numberOf memory) (numberOf Private) is)) (same .private)
-      go false e g = absurd (none (eqb (numberOfPart (AllOf memory)) (numberOfPart From0800)) refl g)
-        where
-          none : (b : Bool) → eqb (3 + numberOf memory) 2 ≡ b → b || false ≡ true → ⊥
-          none true f k = omega (arith, eqb-true (3 + numberOf memory) 2 f)
-          none false f k = false≢true k
+  sees-same bit TheMachine h = absurd (false≢true h)
+  sees-same bit Z80Bit h = bit
+  sees-same bit Below0800 h = absurd (false≢true h)
+  sees-same bit From0800 h = same .from0800
+  sees-same bit (AllOf Private) h = same .private
+  sees-same bit (AllOf Shared) h = absurd (false≢true h)
+  sees-same bit (AllOf Screen) h = absurd (false≢true h)
+  sees-same bit (AllOf Attribute) h = absurd (false≢true h)
+  sees-same bit (AllOf Glyphs) h = absurd (false≢true h)
+  sees-same bit (AllOf Nvm) h = absurd (false≢true h)
+  sees-same bit (AllOf Shadow) h = absurd (false≢true h)
+  sees-same bit (AllOf Picture) h = absurd (false≢true h)
+  sees-same bit (AllOf Line) h = absurd (false≢true h)
+
+  its-bit : Same Z80Bit w v → (part : Part) → has (Z80Bit ∷ []) part ≡ true → Same part w v
+  unfolding has
+  its-bit bit part h = sees-same bit part (first-of (eqb (numberOfPart part) (numberOfPart Z80Bit)) _ h)
 
   z80 :
-      (call : Call) → isZ80 call ≡ true → (answer call w ≡ answer call v) × Agree (after call w) (after call v)
-  unfolding onlyParts onlyMemories has hasMemory
-  z80 (ReadZ80 a) h =
-      (sees-only (ReadZ80 a) w v (record { lengths = as-long; seen = sees-same }) .0, same)
-  z80 (StoreZ80 a b) h =
-      let both = sees-only (StoreZ80 a b) w v (record { lengths = as-long; seen = λ part g. absurd (false≢true g) }) in
-      (both .0, after-both (StoreZ80 a b) (both .1 (AllOf Private) (same .private)) (both .1 From0800 (same .from0800)))
-  z80 (Read8088 a) h = absurd (false≢true h)
-  z80 (Store8088 a b) h = absurd (false≢true h)
-  z80 (ReadShadow p) h = absurd (false≢true h)
-  z80 (WriteShadow p b) h = absurd (false≢true h)
-  z80 (WritePort p k) h = absurd (false≢true h)
-  z80 VerticalTick h = absurd (false≢true h)
-  z80 Draw h = absurd (false≢true h)
-  z80 (StoreWithPicture a b) h = absurd (false≢true h)
-  z80 (GlyphPart k) h = absurd (false≢true h)
-  z80 (DrawLine r s) h = absurd (false≢true h)
-
-  -- a store with a picture does to the Z80's parts what the lengths and the address say
-  picture-stores : (a b : ℕ) → SameLengths w v → Agree (after (StoreWithPicture a b) w) (after (StoreWithPicture a b) v)
-  picture-stores a b lengths = go (refusedWithPicture a w) refl
+      (call : Call) → Same Z80Bit w v → isZ80 call ≡ true
+      → (answer call w ≡ answer call v) × Agree (after call w) (after call v)
+  z80 call bit is = of-z80 (λ (one : Call). (answer one w ≡ answer one v) × Agree (after one w) (after one v)) reads stores call is
     where
-      alike : refusedWithPicture a w ≡ refusedWithPicture a v
-      alike = rw (lengths Shared, lengths Screen, lengths Attribute, lengths Picture)
+      reads : (a : ℕ) → (answer (ReadZ80 a) w ≡ answer (ReadZ80 a) v) × Agree w v
+      reads a = (sees-only (ReadZ80 a) w v (record { lengths = as-long; seen = sees-same bit }) .0, same)
 
-      drawn : World → World
-      drawn u = withBytes Picture (mendedIn a b u) u
-
-      go : (r : Bool) → refusedWithPicture a w ≡ r → Agree (after (StoreWithPicture a b) w) (after (StoreWithPicture a b) v)
-      go true e =
-          let w-stays = picture-refused a b w e in
-          let v-stays = picture-refused a b v (sym alike ∙ e) in
-          after-both (StoreWithPicture a b) (same-by (AllOf Private) _ w _ v w-stays v-stays (same .private))
-          (same-by From0800 _ w _ v w-stays v-stays (same .from0800))
-      go false e =
-          let w-goes = picture-accepted a b w e in
-          let v-goes = picture-accepted a b v (sym alike ∙ e) in
-          after-both (StoreWithPicture a b)
-          (same-by (AllOf Private) _ _ _ _ w-goes v-goes (stored-alike (seen8088 a) b (drawn w) (drawn v) (AllOf Private) (same .private)))
-          (same-by From0800 _ _ _ _ w-goes v-goes (stored-alike (seen8088 a) b (drawn w) (drawn v) From0800 (same .from0800)))
+      stores :
+          (a b : ℕ)
+          → (answer (StoreZ80 a b) w ≡ answer (StoreZ80 a b) v) × Agree (after (StoreZ80 a b) w) (after (StoreZ80 a b) v)
+      stores a b =
+          let both = sees-only (StoreZ80 a b) w v (record { lengths = as-long; seen = its-bit bit }) in
+          (both .0, after-both (StoreZ80 a b) (both .1 (AllOf Private) (same .private)) (both .1 From0800 (same .from0800)))
 
   -- a call that the Z80 sees and that is not its own is a store of the 8088
   stores-in-both :
       (call : Call) → isZ80 call ≡ false → unseenByZ80 call ≡ false → SameLengths w v → Agree (after call w) (after call v)
   unfolding onlyParts onlyMemories has hasMemory
   stores-in-both (Store8088 a b) is un lengths =
-      let alike : refusal8088 (w .bytes Shared) (w .bytes Screen) (w .bytes Attribute) a
-      ≡ refusal8088 (v .bytes Shared) (v .bytes Screen) (v .bytes Attribute) a =
-      rw (lengths Shared, lengths Screen, lengths Attribute) in
-      after-both (Store8088 a b) (stores-alike a b w v alike (AllOf Private) (same .private))
-      (stores-alike a b w v alike From0800 (same .from0800))
-  stores-in-both (StoreWithPicture a b) is un lengths = picture-stores a b lengths
+      after-both (Store8088 a b) (stores-by-length a b w v lengths (AllOf Private) (same .private))
+      (stores-by-length a b w v lengths From0800 (same .from0800))
+  stores-in-both (StoreWithPicture a b) is un lengths =
+      after-both (StoreWithPicture a b) (pictures-alike a b w v lengths (AllOf Private) (same .private) (same .private))
+      (pictures-alike a b w v lengths From0800 (same .from0800) (same .from0800))
   stores-in-both (ReadZ80 a) is un lengths = absurd (true≢false is)
   stores-in-both (StoreZ80 a b) is un lengths = absurd (true≢false is)
   stores-in-both (Read8088 a) is un lengths = absurd (true≢false un)
@@ -169,14 +259,14 @@ lengths-after call w v lengths memory = lengths-stay call w memory ∙ lengths m
 
 -- one turn of a call that both make
 both-turn :
-    (call : Call) (later : Bool) (w v : World) → Agree w v
+    (call : Call) (later : Bool) (w v : World) → Agree w v → (isZ80 call ≡ true → Same Z80Bit w v)
     → (not (isZ80 call || unseenByZ80 call) || later ≡ true → SameLengths w v) → Agree (after call w) (after call v)
-both-turn call later w v same lengths = go (isZ80 call) (unseenByZ80 call) refl refl lengths
+both-turn call later w v same bit lengths = go (isZ80 call) (unseenByZ80 call) refl refl lengths
   where
     go :
         (z u : Bool) → isZ80 call ≡ z → unseenByZ80 call ≡ u → (not (z || u) || later ≡ true → SameLengths w v)
         → Agree (after call w) (after call v)
-    go true u e f g = z80 w v same call e .1
+    go true u e f g = z80 w v same call (bit e) e .1
     go false true e f g = agree-trans (unseen call w f) (agree-trans same (agree-sym (unseen call v f)))
     go false false e f g = stores-in-both w v same call e f (g refl)
 
@@ -186,12 +276,12 @@ later-lengths true later lengths h = lengths refl
 later-lengths false later lengths h = lengths h
 
 pub same-answers : SameAnswers
-same-answers [] w v same lengths = (refl, same)
-same-answers (Both call ∷ turns) w v same lengths =
+same-answers [] w v same bits lengths = (refl, same)
+same-answers (Both call ∷ turns) w v same bits lengths =
     let first = not (isZ80 call || unseenByZ80 call) in
-    let after-it = both-turn call (storesInBoth turns) w v same lengths in
+    let after-it = both-turn call (storesInBoth turns) w v same (bits .0) lengths in
     let rest =
-    same-answers turns (after call w) (after call v) after-it
+    same-answers turns (after call w) (after call v) after-it (bits .1)
     (λ h. lengths-after call w v (later-lengths first (storesInBoth turns) lengths h)) in
     (heard-same (isZ80 call) refl (rest .0), rest .1)
   where
@@ -200,11 +290,28 @@ same-answers (Both call ∷ turns) w v same lengths =
         → answers left turns (after call w) ≡ answers right turns (after call v)
         → cond z (answer call w ∷ answers left turns (after call w)) (answers left turns (after call w))
         ≡ cond z (answer call v ∷ answers right turns (after call v)) (answers right turns (after call v))
-    heard-same true e later = rw (z80 w v same call e .0, later)
+    heard-same true e later = rw (z80 w v same call (bits .0 e) e .0, later)
     heard-same false e later = later
-same-answers (LeftAlone call h ∷ turns) w v same lengths =
-    same-answers turns (after call w) v (agree-trans (unseen call w h) same)
+same-answers (LeftAlone call h ∷ turns) w v same bits lengths =
+    same-answers turns (after call w) v (agree-trans (unseen call w h) same) (bits .1)
     (λ g memory. lengths-stay call w memory ∙ lengths g memory)
-same-answers (RightAlone call h ∷ turns) w v same lengths =
-    same-answers turns w (after call v) (agree-trans same (agree-sym (unseen call v h)))
+same-answers (RightAlone call h ∷ turns) w v same bits lengths =
+    same-answers turns w (after call v) (agree-trans same (agree-sym (unseen call v h))) (bits .1)
     (λ g memory. lengths g memory ∙ sym (lengths-stay call v memory))
+
+pub same-bit-by-codes : SameBitByCodes
+same-bit-by-codes turns w v same codes = go turns (z80Runs (w .machine)) w v refl (sym same) codes
+  where
+    go :
+        (turns : List Turn) (runs : Bool) (w v : World) → z80Runs (w .machine) ≡ runs → z80Runs (v .machine) ≡ runs
+        → CodesHave runs turns → SameBit turns w v
+    go [] runs w v p q codes = tt
+    go (Both call ∷ turns) runs w v p q codes = (
+      λ is. p ∙ sym q,
+      go turns runs (after call w) (after call v) (keeps-the-bit call w runs p (codes .0)) (keeps-the-bit call v runs q (codes .0))
+          (codes .1),
+    )
+    go (LeftAlone call h ∷ turns) runs w v p q codes =
+        (λ is. absurd (false≢true is), go turns runs (after call w) v (keeps-the-bit call w runs p (codes .0)) q (codes .1))
+    go (RightAlone call h ∷ turns) runs w v p q codes =
+        (λ is. absurd (false≢true is), go turns runs w (after call v) p (keeps-the-bit call v runs q (codes .0)) (codes .1))

@@ -5,3 +5,4 @@ pub mod Reach
 pub mod Z80
 pub mod Shadow
 pub mod Kept
+pub mod Held

@@ -103,9 +103,10 @@ outcome (Store8088 address byte) w =
     let left = store8088 (w .bytes Shared) (w .bytes Screen) (w .bytes Attribute) address byte in
     leaving (answered (left .refusal) [])
     (withBytes Shared (left .shared) (withBytes Screen (left .screen) (withBytes Attribute (left .attribute) w)))
-outcome (ReadZ80 address) w = leaving (readAnswer (readZ80 (w .bytes Private) (w .bytes Shared) address)) w
+outcome (ReadZ80 address) w =
+    leaving (readAnswer (readZ80 (w .machine) (w .bytes Private) (w .bytes Shared) address)) w
 outcome (StoreZ80 address byte) w =
-    let left = storeZ80 (w .bytes Private) (w .bytes Shared) address byte in
+    let left = storeZ80 (w .machine) (w .bytes Private) (w .bytes Shared) address byte in
     leaving (answered (left .refusal) []) (withBytes Private (left .private) (withBytes Shared (left .shared) w))
 outcome (ReadShadow place) w = leaving (readAnswer (readShadow (w .bytes Shadow) place)) w
 outcome (WriteShadow place value) w =

@@ -89,6 +89,10 @@ fn print_tally(tally: &Tally, seconds: f64) {
     for (number, calls) in tally.refusals.iter().enumerate().skip(1) {
         println!("refused by {number:<9}{calls:>9}");
     }
+    println!("{:<20}{:>9}", "Z80: answered", tally.z80[0]);
+    for number in [1, 7] {
+        println!("Z80: refused by {number:<4}{:>9}", tally.z80[number]);
+    }
     let (drawings, last) = (&tally.drawings, ROWS - 1);
     let middle = format!("wild: row 1 to {}", last - 1);
     println!("{:<20}{:>9}", "wild: row 0", drawings[0]);

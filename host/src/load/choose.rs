@@ -10,6 +10,24 @@ use crate::hard::Chance;
 use crate::memories::SHADOW;
 use crate::mending::MARK_BITS;
 
+/// How the calls of a run are chosen.
+#[derive(Clone, Copy, PartialEq, Eq)]
+pub enum Way {
+    /// The picture is never left behind.
+    True,
+    Any,
+    /// Most are the Z80's, with writes to port 0A and what the 8088 does meanwhile.
+    Z80,
+}
+
+pub fn way(chance: &mut Chance) -> Way {
+    match chance.below(8) {
+        0 => Way::Z80,
+        1..=4 => Way::True,
+        _ => Way::Any,
+    }
+}
+
 /// The kinds of calls, with how often they are chosen.
 #[derive(Clone, Copy)]
 enum Choice {
@@ -27,7 +45,7 @@ enum Choice {
     Line,
 }
 
-const CHOICES: [(usize, Choice); 21] = [
+const CHOICES: [(usize, Choice); 22] = [
     (260, Choice::Stored),
     (120, Choice::Port),
     (60, Choice::Read8088),
@@ -45,6 +63,7 @@ const CHOICES: [(usize, Choice); 21] = [
     (28, Choice::Plain(Call::PowerUp)),
     (28, Choice::Plain(Call::VerticalTick)),
     (28, Choice::Plain(Call::Columns)),
+    (28, Choice::Plain(Call::Z80Runs)),
     (28, Choice::Plain(Call::Blanked)),
     (28, Choice::Plain(Call::Graphics)),
     (28, Choice::Plain(Call::ScrollLatch)),
@@ -78,6 +97,28 @@ fn port(chance: &mut Chance) -> Call {
         _ => chance.below(13) as u8,
     };
     Call::WritePort { port, code }
+}
+
+/// A call of the Z80, or one that decides what the next of them answers. Each byte is as likely a code of port 0A as
+/// any other, so the Z80 is held about as often as it runs.
+fn about_the_z80(chance: &mut Chance) -> Call {
+    let (address, byte) = (aim::z80(chance), chance.byte());
+    match chance.below(10) {
+        0 => Call::WritePort {
+            port: 0x0A,
+            code: byte,
+        },
+        1 => Call::StoreWithPicture {
+            address: address.into(),
+            byte,
+        },
+        2 => Call::Read8088 {
+            address: address.into(),
+        },
+        3 => Call::Z80Runs,
+        4..=6 => Call::ReadZ80 { address },
+        _ => Call::StoreZ80 { address, byte },
+    }
 }
 
 const HUGE: [usize; 4] = [usize::MAX, usize::MAX / 2, 1 << 32, 1 << 63];
@@ -180,12 +221,17 @@ fn numbered(chance: &mut Chance, choice: Choice) -> Call {
 
 /// The next step. In a true run the picture is never left behind: it is drawn first, and again as soon as the
 /// columns have changed.
-pub fn step(chance: &mut Chance, sides: &Sides, true_run: bool) -> Step {
+pub fn step(chance: &mut Chance, sides: &Sides, way: Way) -> Step {
+    let true_run = way == Way::True;
     if true_run && !sides.kept {
         return Call::Draw.into();
     }
     if !true_run && chance.below(60) == 0 {
         return by_hand(chance).into();
+    }
+    if way == Way::Z80 && chance.below(4) > 0 {
+        let call = about_the_z80(chance);
+        return lent(chance, call);
     }
     let call = match choice(chance) {
         Choice::Store8088 if true_run => Call::DrawAfresh,

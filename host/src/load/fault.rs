@@ -10,7 +10,7 @@ use crate::rainbow::{Seen, Wild};
 #[derive(Clone, Copy, Debug, PartialEq, Eq)]
 pub struct Fault(pub usize);
 
-pub const FAULTS: [&str; 16] = [
+pub const FAULTS: [&str; 21] = [
     "row 0's link is taken high byte first",
     "row 23 is never marked",
     "the Z80's private memory ends a byte later",
@@ -27,6 +27,11 @@ pub const FAULTS: [&str; 16] = [
     "the second library has 1,187 dots in a line at 132 columns (with --against)",
     "the last wild row is named",
     "row 0 is named where no link is wild",
+    "the Z80 runs while bit 0 of port 0A is 0, and is held while it is 1",
+    "the Z80 runs while bit 1 of port 0A is 1",
+    "the Z80 is held ahead of a wrong length: 7, not 1",
+    "a held Z80 is refused its reads, but not its stores",
+    "a held Z80 stores, and is then refused by 7",
 ];
 
 impl Fault {
@@ -41,6 +46,13 @@ impl Fault {
             }
             (5, Call::ScanLine { .. }) => not_underlined(model, call),
             (8, Call::StoreWithPicture { .. }) => first_row_only(model, call),
+            (17, Call::ReadZ80 { .. } | Call::StoreZ80 { .. }) => {
+                holding(model, call, model.machine.held ^ 1)
+            }
+            (18, Call::ReadZ80 { .. } | Call::StoreZ80 { .. }) => {
+                holding(model, call, model.machine.held >> 1)
+            }
+            (20, Call::StoreZ80 { .. }) => holding(model, call, RUNS),
             _ => self.answer(call, model),
         }
     }
@@ -56,6 +68,14 @@ impl Fault {
             (15, Call::Draw) if seen.wild.there != 0 => seen.wild = last_wild(model),
             (16, Call::Draw) if seen.refusal == 0 && seen.wild.there == 0 => {
                 seen.wild = Wild::named(0)
+            }
+            (19, Call::ReadZ80 { .. } | Call::StoreZ80 { .. })
+                if seen.refusal == 1 && !model.machine.z80_runs() =>
+            {
+                seen.refusal = 7
+            }
+            (21, Call::StoreZ80 { .. }) if seen.refusal == 7 => {
+                holding(model, call, RUNS);
             }
             _ => {}
         }
@@ -106,6 +126,18 @@ fn last_wild(model: &Model) -> Wild {
     let (view, columns) = (&model.view, model.machine.columns.into());
     let rows = wild_rows(&view.screen, &view.attribute, columns).unwrap_or_default();
     rows.last().map_or(Wild::default(), |row| Wild::named(*row))
+}
+
+/// A byte of port 0A by which the Z80 runs.
+const RUNS: u8 = 0x01;
+
+/// The call as it is while port 0A holds another byte.
+fn holding(model: &mut Model, call: &Call, held: u8) -> Seen {
+    let kept = model.machine.held;
+    model.machine.held = held;
+    let seen = model.right(call);
+    model.machine.held = kept;
+    seen
 }
 
 fn high_byte_first(model: &mut Model) -> Seen {

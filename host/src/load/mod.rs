@@ -26,13 +26,15 @@ use sides::Sides;
 use std::thread::spawn;
 use world::World;
 
-/// How many calls there were of each function, how many were answered by each number of refusal, and how many drawings
-/// named each row.
+/// How many calls there were of each function, how many were answered by each number of refusal, of all and of the
+/// Z80's, and how many drawings named each row.
 #[derive(Default)]
 pub struct Tally {
     pub calls: [u64; FUNCTIONS.len()],
     /// By number; 0 is accepted.
     pub refusals: [u64; REFUSALS + 1],
+    /// The Z80's reads and stores, by number.
+    pub z80: [u64; REFUSALS + 1],
     /// By the row whose link is wild; the last are those that named none. Refused ones do not count.
     pub drawings: [u64; ROWS + 1],
 }
@@ -48,6 +50,9 @@ impl Tally {
         };
         self.calls[function] += 1;
         self.refusals[usize::from(answer.refusal)] += 1;
+        if let Call::ReadZ80 { .. } | Call::StoreZ80 { .. } = call {
+            self.z80[usize::from(answer.refusal)] += 1;
+        }
         if let (Call::Draw | Call::DrawAfresh, 0) = (call, answer.refusal) {
             let named = answer.wild.there != 0;
             self.drawings[if named { answer.wild.row.into() } else { ROWS }] += 1;
@@ -59,6 +64,8 @@ impl Tally {
         calls.for_each(|(sum, calls)| *sum += calls);
         let refusals = self.refusals.iter_mut().zip(other.refusals);
         refusals.for_each(|(sum, refused)| *sum += refused);
+        let z80 = self.z80.iter_mut().zip(other.z80);
+        z80.for_each(|(sum, calls)| *sum += calls);
         let drawings = self.drawings.iter_mut().zip(other.drawings);
         drawings.for_each(|(sum, drawn)| *sum += drawn);
     }
@@ -135,9 +142,9 @@ fn by_chance(calls: u64, chance: &mut Chance, tried: Tried) -> Result<Tally, Scr
     let mut tally = Tally::default();
     while tally.total() < calls {
         let mut run = Run::new(chance, tried, &mut tally);
-        let true_run = chance.below(2) == 0;
+        let way = choose::way(chance);
         for _ in 0..100 + chance.below(300) {
-            let step = choose::step(chance, &run.sides, true_run);
+            let step = choose::step(chance, &run.sides, way);
             run.step(step)?;
         }
         run.step(Call::DrawAfresh.into())?;

@@ -108,6 +108,7 @@ impl Model {
                 Seen::machine(0, mirrored(&self.machine))
             }
             Call::Columns => Seen::value(machine.columns),
+            Call::Z80Runs => Seen::value(machine.z80_runs()),
             Call::Blanked => Seen::value(machine.blanked()),
             Call::Graphics => Seen::value(machine.graphics()),
             Call::ScrollLatch => Seen::value(machine.scroll_latch()),
@@ -144,18 +145,20 @@ impl Model {
 
     fn memory_call(&mut self, call: &Call) -> Seen {
         let (view, private) = (&mut self.view, &mut self.private);
+        let machine = &self.machine;
         match *call {
             Call::Read8088 { address } => seen(view.read(address)),
             Call::Store8088 { address, byte } => Seen::refusal(refusal(&view.store(address, byte))),
             Call::ReadZ80 { address } => {
-                seen(memories::z80_read(private, &mut view.shared, address))
+                let read = memories::z80_read(machine, private, &mut view.shared, address);
+                seen(read)
             }
             Call::StoreZ80 { address, byte } => {
-                let stored = memories::z80_store(private, &mut view.shared, address, byte);
+                let stored = memories::z80_store(machine, private, &mut view.shared, address, byte);
                 Seen::refusal(refusal(&stored))
             }
             Call::StoreWithPicture { address, byte } => {
-                let columns = self.machine.columns.into();
+                let columns = machine.columns.into();
                 let picture = &mut self.picture;
                 seen(mending::store(view, picture, columns, address, byte))
             }

@@ -13,6 +13,7 @@ pub fn pieces() -> Vec<Vec<Step>> {
         ports(),
         latches(),
         edges(),
+        held(),
         addresses(),
         places(),
         lines(),
@@ -69,6 +70,29 @@ fn edges() -> Vec<Call> {
     calls
 }
 
+/// Every code to port 0A, some of them refused, with the Z80 held and running before it; then a read and a store of the
+/// Z80 in private and in shared memory.
+fn held() -> Vec<Call> {
+    let mut calls = Vec::new();
+    for held in [0x00, 0x01, 0xFE, 0xFF] {
+        for code in 0..=255 {
+            let machine = Machine {
+                held,
+                ..Machine::power_up()
+            };
+            calls.push(Call::SetMachine(machine));
+            calls.push(Call::WritePort { port: 0x0A, code });
+            calls.push(Call::Z80Runs);
+            for address in [0x07FF, 0x0800] {
+                let byte = code ^ 0x5A;
+                calls.push(Call::ReadZ80 { address });
+                calls.push(Call::StoreZ80 { address, byte });
+            }
+        }
+    }
+    calls
+}
+
 fn addresses() -> Vec<Call> {
     let mut calls = vec![Call::Draw];
     for address in EDGES {
@@ -79,11 +103,11 @@ fn addresses() -> Vec<Call> {
             calls.push(Call::DrawAfresh);
         }
         let address = address as u16;
-        calls.push(Call::ReadZ80 { address });
-        calls.push(Call::StoreZ80 {
-            address,
-            byte: 0x42,
-        });
+        for (code, byte) in [(0x00, 0x41), (0x01, 0x42)] {
+            calls.push(Call::WritePort { port: 0x0A, code });
+            calls.push(Call::ReadZ80 { address });
+            calls.push(Call::StoreZ80 { address, byte });
+        }
     }
     calls
 }
@@ -123,7 +147,8 @@ fn marks() -> Vec<Call> {
     all.into_iter().flat_map(of_marks).collect()
 }
 
-/// Every call that is lent buffers, with each of them of each wrong length.
+/// Every call that is lent buffers, with each of them of each wrong length; those of the Z80 while it is held and while
+/// it runs.
 fn lengths() -> Vec<Step> {
     let (address, byte) = (0xEE000, 0x41);
     let calls = [
@@ -140,17 +165,24 @@ fn lengths() -> Vec<Step> {
         Call::ScanLine { row: 0, scan: 1 },
     ];
     let mut steps = Vec::new();
-    for call in calls {
-        for length in WRONG_LENGTHS {
-            let mut all = Step::from(call);
-            for buffer in call.buffers() {
-                let mut one = Step::from(call);
-                one.lent.set(*buffer, length);
-                all.lent.set(*buffer, length);
-                steps.push(one);
-            }
-            steps.push(all);
+    for code in [0x00, 0x01] {
+        steps.push(Call::WritePort { port: 0x0A, code }.into());
+        steps.extend(calls.iter().flat_map(|call| wrong_lengths(*call)));
+    }
+    steps
+}
+
+fn wrong_lengths(call: Call) -> Vec<Step> {
+    let mut steps = Vec::new();
+    for length in WRONG_LENGTHS {
+        let mut all = Step::from(call);
+        for buffer in call.buffers() {
+            let mut one = Step::from(call);
+            one.lent.set(*buffer, length);
+            all.lent.set(*buffer, length);
+            steps.push(one);
         }
+        steps.push(all);
     }
     steps
 }

@@ -196,7 +196,7 @@ pub fn any_memories(chance: &mut Chance, columns: usize) -> (Vec<u8>, Vec<u8>) {
     memories(chance, kind, columns)
 }
 
-/// A machine at power-up but for its columns and its display, or one of any values.
+/// A machine at power-up but for its columns, its display and its Z80, or one of any values.
 pub fn machine(chance: &mut Chance) -> Machine {
     let columns = chance.of(&[80, 132]);
     match chance.below(4) {
@@ -214,7 +214,7 @@ pub fn machine(chance: &mut Chance) -> Machine {
         1 => Machine::power_up(),
         _ => Machine {
             columns,
-            held: 0x02,
+            held: chance.of(&[0x02, 0x03]),
             ..Machine::power_up()
         },
     }

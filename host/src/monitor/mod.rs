@@ -73,8 +73,8 @@ mod tests {
     fn refusals_are_told_by_number() {
         let both = "refused 6: bits 6 and 7 both rise";
         assert_eq!(shown::refused("port HHHH HH", 6), both);
-        let other = "refused 7, byte 00: a refusal that the monitor does not know";
-        assert_eq!(shown::refused("read HHHHHHHH", 7), other);
+        let other = "refused 8, byte 00: a refusal that the monitor does not know";
+        assert_eq!(shown::refused("read HHHHHHHH", 8), other);
     }
 
     #[test]
@@ -144,6 +144,40 @@ mod tests {
             ("draw", "drawn, bytes read: 72, first wild row: 0\n"),
             ("list 0", "columns 80 reads 72\n0 0000 3 0\n1 0FFF 0 0\n"),
             ("draw 1", "expected draw\n"),
+        ];
+        let mut session = Session::power_up();
+        for (line, begins) in lines {
+            let answer = String::from_utf8(session.answer(line.as_bytes())).unwrap();
+            assert!(answer.starts_with(begins), "{line}: {answer}");
+        }
+    }
+
+    /// 02, ticket 2: "So the Z80 runs only while the bit is 1." "Refusals: 7, the Z80 is held, for both Z80 access
+    /// calls, after 1."
+    #[test]
+    fn a_z80_that_is_held_is_refused_by_7() {
+        let lines: [(&str, &str); 13] = [
+            ("z80 store 0800 41", "refused 7: the Z80 is held in reset\n"),
+            ("z80 read 07FF", "refused 7, byte 00: the Z80 is held in reset\n"),
+            ("lend private 2047", "lent\n"),
+            ("z80 read 07FF", "refused 1, byte 00: a memory lent at"),
+            ("lend private 2048", "lent\n"),
+            ("put private 2047 42", "put\n"),
+            (
+                "port 0A 01",
+                "written: 80 columns, 60 Hz, interlace 0, latch 00, blink 0, interrupt 0, reverse 0, watchdog 0, \
+                 0A holds 01, z80 runs 1, blanked 1, graphics 0\n",
+            ),
+            ("z80 read 0800", "reads 00\n"),
+            ("z80 read 07FF", "reads 42\n"),
+            ("z80 store 0800 41", "stored\n"),
+            ("read 800", "reads 41\n"),
+            (
+                "power",
+                "power-up: 80 columns, 60 Hz, interlace 0, latch 00, blink 0, interrupt 0, reverse 0, watchdog 0, \
+                 0A holds 00, z80 runs 0, blanked 1, graphics 0\n",
+            ),
+            ("z80 read 0800", "refused 7, byte 00: the Z80 is held in reset\n"),
         ];
         let mut session = Session::power_up();
         for (line, begins) in lines {

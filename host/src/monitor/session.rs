@@ -40,6 +40,11 @@ impl Session {
         self.machine.columns.into()
     }
 
+    /// The byte that port 0A holds.
+    pub fn held(&self) -> u8 {
+        self.machine.held
+    }
+
     /// The kept picture.
     pub fn picture(&self) -> &[u8] {
         &self.memories[PICTURES].bytes[..PICTURE]
@@ -127,14 +132,16 @@ impl Session {
             "read" => self.with_view(|view, _, _| view.read(first)).map(reads),
             "z80 store" => {
                 let (mut private, mut shared) = (self.taken(PRIVATE), self.taken(SHARED));
-                let answer = memories::z80_store(&mut private, &mut shared, address, byte);
+                let machine = &self.machine;
+                let answer = memories::z80_store(machine, &mut private, &mut shared, address, byte);
                 self.put_back(PRIVATE, &private);
                 self.put_back(SHARED, &shared);
                 answer.map(stored)
             }
             "z80 read" => {
                 let (mut private, mut shared) = (self.taken(PRIVATE), self.taken(SHARED));
-                memories::z80_read(&mut private, &mut shared, address).map(reads)
+                let machine = &self.machine;
+                memories::z80_read(machine, &mut private, &mut shared, address).map(reads)
             }
             "port" => self.port(address, byte),
             "shadow write DDDDD" => {

@@ -112,7 +112,7 @@ impl Loaded {
                 "power_up" => Seen::machine(0, of!(at, () -> Machine)()),
                 "vertical_tick" => Seen::machine(0, of!(at, (Machine) -> Machine)(machine)),
                 "columns" | "dots_of_line" => Seen::value(of!(at, (Machine) -> usize)(machine)),
-                "blanked" | "graphics" | "scroll_latch" => {
+                "z80_runs" | "blanked" | "graphics" | "scroll_latch" => {
                     Seen::value(of!(at, (Machine) -> u8)(machine))
                 }
                 "is_marked" => Seen::value(of!(at, (u32, usize) -> u8)(m as u32, n as usize)),
@@ -147,12 +147,12 @@ unsafe fn lending(
             Seen::refusal(call(a, a_len, b, b_len, c, c_len, m as u32, n as u8))
         }
         "read_z80" => {
-            let call = of!(at, (In, usize, In, usize, u16) -> ByteRead);
-            read(call(a, a_len, b, b_len, m as u16))
+            let call = of!(at, (Machine, In, usize, In, usize, u16) -> ByteRead);
+            read(call(machine, a, a_len, b, b_len, m as u16))
         }
         "store_z80" => {
-            let call = of!(at, (Out, usize, Out, usize, u16, u8) -> u8);
-            Seen::refusal(call(a, a_len, b, b_len, m as u16, n as u8))
+            let call = of!(at, (Machine, Out, usize, Out, usize, u16, u8) -> u8);
+            Seen::refusal(call(machine, a, a_len, b, b_len, m as u16, n as u8))
         }
         "read_shadow" => {
             let call = of!(at, (In, usize, usize) -> ByteRead);

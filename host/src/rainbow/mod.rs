@@ -22,11 +22,12 @@ pub struct Machine {
 }
 
 /// The functions of the header, without `rainbow_`. host/serve.c has the same numbers.
-pub const FUNCTIONS: [&str; 20] = [
+pub const FUNCTIONS: [&str; 21] = [
     "version",
     "power_up",
     "vertical_tick",
     "columns",
+    "z80_runs",
     "blanked",
     "graphics",
     "scroll_latch",

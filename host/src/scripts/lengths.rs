@@ -25,13 +25,13 @@ const CALLS: [Tried<'static>; 11] = [
         "store 10000 41",
     ),
     (
-        "the Z80's read",
+        "the Z80's read, while it is held",
         &["private", "shared"],
         "z80 read 0000",
         "z80 read 0800",
     ),
     (
-        "the Z80's store",
+        "the Z80's store, while it is held",
         &["private", "shared"],
         "z80 store 0000 41",
         "z80 store 0800 41",
@@ -104,6 +104,14 @@ pub fn script() -> Script {
         for name in memories {
             refused(&mut script, name, right, wrong);
         }
+        if right.starts_with("z80") {
+            script.remark("The same while it runs.");
+            script.line("port 0A 01");
+            for name in memories {
+                refused(&mut script, name, right, wrong);
+            }
+            script.line("port 0A 00");
+        }
         script.lines(&["sums", "machine"]);
     }
     script.remark("Two lengths that are wrong at once; a shared and a private memory that are lent for each other.");
@@ -122,9 +130,11 @@ pub fn script() -> Script {
     script.lines(&["lend shared 0", "lend private 0", "lend nvm 0", "draw"]);
     script.lines(&["lend picture 0", "glyph 41", "power", "lend picture 0"]);
     script.lines(&["read EE000", "blind EE000 43", "power", "lend screen 0"]);
-    script.lines(&["lend attribute 0", "z80 read 0800", "line 0 1"]);
+    script.lines(&["lend attribute 0", "port 0A 01"]);
+    script.lines(&["z80 read 0800", "line 0 1"]);
     script.remark("Lent at their own lengths, each is accepted, or refused by the next number.");
-    script.lines(&["power", "port 0A 02"]);
+    script.lines(&["power", "z80 read 0000", "z80 store 0000 41"]);
+    script.line("port 0A 03");
     for (_, _, right, wrong) in calls(&past) {
         script.lines(&[right, wrong]);
     }

@@ -6,8 +6,8 @@ const TURNS: usize = 320;
 pub fn script() -> Script {
     let mut script = Script::new(
         5,
-        "A RUN. Stores by both processors, ticks and writes to ports, refused ones among them; one \
-         picture kept.",
+        "A RUN. Stores by both processors, the Z80 held or running, ticks, writes to ports, refused ones \
+         too; one picture kept.",
     );
     script.lines(&["fill shadow 11", "fill nvm EE", "strew screen 51 40 17"]);
     script.lines(&["strew attribute 52 30 256", "draw"]);
@@ -26,8 +26,13 @@ pub fn script() -> Script {
     script
 }
 
+/// A call of the Z80, now and then after bit 0 of port 0A was turned over, and no other bit.
 fn z80(script: &mut Script) {
     let (n, m) = (script.next(), script.next());
+    if m >> 11 & 3 == 0 {
+        let turned = script.session.held() ^ 1;
+        script.line(&format!("port 0A {turned:02X}"));
+    }
     let address = match m >> 8 & 1 {
         0 => n & 0xFFFF,
         _ => 0x07F8 + (n & 15),
