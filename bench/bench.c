@@ -18,7 +18,7 @@ typedef struct {
     rainbow_drawn (*draw)(rainbow_machine, const uint8_t *, size_t, const uint8_t *, size_t, uint8_t *, size_t);
     rainbow_stored (*store)(rainbow_machine, uint8_t *, size_t, uint8_t *, size_t, uint8_t *, size_t, uint8_t *,
                             size_t, uint32_t, uint8_t);
-    uint8_t (*store_only)(uint8_t *, size_t, uint8_t *, size_t, uint8_t *, size_t, uint32_t, uint8_t);
+    uint8_t (*store_only)(rainbow_machine, uint8_t *, size_t, uint8_t *, size_t, uint8_t *, size_t, uint32_t, uint8_t);
     uint8_t (*scan_line)(rainbow_machine, const uint8_t *, size_t, const uint8_t *, size_t, size_t, size_t, uint8_t *,
                          size_t);
 } side;
@@ -92,7 +92,8 @@ static void store_link(const side *with) {
 static void redraw_and_compare(const side *with, unsigned place) {
     uint8_t byte = screen[place] == 'A' ? 'B' : 'A';
     uint32_t marks = 0;
-    with->store_only(shared, sizeof shared, screen, sizeof screen, attribute, sizeof attribute, 0xEE000 + place, byte);
+    with->store_only(machine, shared, sizeof shared, screen, sizeof screen, attribute, sizeof attribute,
+                     0xEE000 + place, byte);
     with->draw(machine, screen, sizeof screen, attribute, sizeof attribute, fresh, sizeof fresh);
     for (unsigned row = 0; row < RAINBOW_ROWS; row++) {
         size_t at = row * RAINBOW_RECORD_BYTES;

@@ -73,11 +73,14 @@ rainbow_drawn plain_draw(rainbow_machine machine, const uint8_t *screen, size_t 
     return drawn;
 }
 
-uint8_t plain_store_8088(uint8_t *shared, size_t shared_length, uint8_t *screen, size_t screen_length,
-                         uint8_t *attribute, size_t attribute_length, uint32_t address, uint8_t byte) {
+uint8_t plain_store_8088(rainbow_machine machine, uint8_t *shared, size_t shared_length, uint8_t *screen,
+                         size_t screen_length, uint8_t *attribute, size_t attribute_length, uint32_t address,
+                         uint8_t byte) {
     if (shared_length != RAINBOW_SHARED_BYTES || screen_length != RAINBOW_SCREEN_BYTES ||
         attribute_length != RAINBOW_ATTRIBUTE_BYTES)
         return RAINBOW_REFUSED_LENGTH;
+    if (machine.reset)
+        return RAINBOW_REFUSED_IN_RESET;
     if (address < 0x10000)
         shared[address] = byte;
     else if (address >= 0xEE000 && address < 0xEF000)
@@ -111,10 +114,10 @@ rainbow_stored plain_store_with_picture(rainbow_machine machine, uint8_t *shared
     rainbow_stored stored = {RAINBOW_REFUSED_LENGTH, 0};
     if (picture_length != RAINBOW_PICTURE_BYTES)
         return stored;
-    if (address < 0xEE000 || address >= 0xF0000 || shared_length != RAINBOW_SHARED_BYTES ||
+    if (machine.reset || address < 0xEE000 || address >= 0xF0000 || shared_length != RAINBOW_SHARED_BYTES ||
         screen_length != RAINBOW_SCREEN_BYTES || attribute_length != RAINBOW_ATTRIBUTE_BYTES) {
-        stored.refusal = plain_store_8088(shared, shared_length, screen, screen_length, attribute, attribute_length,
-                                          address, byte);
+        stored.refusal = plain_store_8088(machine, shared, shared_length, screen, screen_length, attribute,
+                                          attribute_length, address, byte);
         return stored;
     }
     unsigned columns = machine.columns132 ? 132 : 80, row = 0;

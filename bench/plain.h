@@ -1,5 +1,5 @@
 /* The same jobs in plain C, to measure beside: document 01 as a C programmer would write it, with the tests of
- * lengths, addresses and places that the library makes. */
+ * lengths, reset, addresses and places that the library makes. */
 #ifndef PLAIN_H
 #define PLAIN_H
 
@@ -18,7 +18,8 @@ uint8_t plain_scan_line(rainbow_machine machine, const uint8_t *picture, size_t 
                         const uint8_t *table, size_t table_length, size_t row, size_t scan, uint8_t *line,
                         size_t line_length);
 
-uint8_t plain_store_8088(uint8_t *shared, size_t shared_length, uint8_t *screen, size_t screen_length,
-                         uint8_t *attribute, size_t attribute_length, uint32_t address, uint8_t byte);
+uint8_t plain_store_8088(rainbow_machine machine, uint8_t *shared, size_t shared_length, uint8_t *screen,
+                         size_t screen_length, uint8_t *attribute, size_t attribute_length, uint32_t address,
+                         uint8_t byte);
 
 #endif

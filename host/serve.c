@@ -114,38 +114,41 @@ static answer call(uint8_t function, rainbow_machine machine, uint64_t m, uint64
     case 0: a.value = rainbow_version(); break;
     case 1: a.machine = rainbow_power_up(); break;
     case 2: a.machine = rainbow_vertical_tick(machine); break;
-    case 3: a.value = rainbow_columns(machine); break;
-    case 4: a.value = rainbow_z80_runs(machine); break;
-    case 5: a.value = rainbow_blanked(machine); break;
-    case 6: a.value = rainbow_graphics(machine); break;
-    case 7: a.value = rainbow_scroll_latch(machine); break;
-    case 8: a.value = rainbow_dots_of_line(machine); break;
-    case 9: {
+    case 3: a.machine = rainbow_watchdog_tick(machine); break;
+    case 4: a.value = rainbow_columns(machine); break;
+    case 5: a.value = rainbow_z80_runs(machine); break;
+    case 6: a.value = rainbow_blanked(machine); break;
+    case 7: a.value = rainbow_graphics(machine); break;
+    case 8: a.value = rainbow_scroll_latch(machine); break;
+    case 9: a.value = rainbow_dots_of_line(machine); break;
+    case 10: {
         rainbow_written written = rainbow_write_port(machine, b[0], l[0], b[1], l[1], (uint16_t)m, (uint8_t)n);
         a.refusal = written.refusal;
         a.machine = written.machine;
         break;
     }
-    case 10: return read_byte(rainbow_read_8088(b[0], l[0], b[1], l[1], b[2], l[2], (uint32_t)m));
-    case 11: a.refusal = rainbow_store_8088(b[0], l[0], b[1], l[1], b[2], l[2], (uint32_t)m, (uint8_t)n); break;
-    case 12: return read_byte(rainbow_read_z80(machine, b[0], l[0], b[1], l[1], (uint16_t)m));
-    case 13: a.refusal = rainbow_store_z80(machine, b[0], l[0], b[1], l[1], (uint16_t)m, (uint8_t)n); break;
-    case 14: return read_byte(rainbow_read_shadow(b[0], l[0], m));
-    case 15: a.refusal = rainbow_write_shadow(b[0], l[0], m, (uint8_t)n); break;
-    case 16:
+    case 11: return read_byte(rainbow_read_8088(machine, b[0], l[0], b[1], l[1], b[2], l[2], (uint32_t)m));
+    case 12:
+        a.refusal = rainbow_store_8088(machine, b[0], l[0], b[1], l[1], b[2], l[2], (uint32_t)m, (uint8_t)n);
+        break;
+    case 13: return read_byte(rainbow_read_z80(machine, b[0], l[0], b[1], l[1], (uint16_t)m));
+    case 14: a.refusal = rainbow_store_z80(machine, b[0], l[0], b[1], l[1], (uint16_t)m, (uint8_t)n); break;
+    case 15: return read_byte(rainbow_read_shadow(machine, b[0], l[0], m));
+    case 16: a.refusal = rainbow_write_shadow(machine, b[0], l[0], m, (uint8_t)n); break;
+    case 17:
         a.drawn = rainbow_draw(machine, b[0], l[0], b[1], l[1], b[2], l[2]);
         a.refusal = a.drawn.refusal;
         a.value = a.drawn.reads;
         break;
-    case 17: {
+    case 18: {
         rainbow_stored stored = rainbow_store_with_picture(machine, b[0], l[0], b[1], l[1], b[2], l[2], b[3], l[3],
                                                            (uint32_t)m, (uint8_t)n);
         a.refusal = stored.refusal;
         a.value = stored.marks;
         break;
     }
-    case 18: a.value = rainbow_is_marked((uint32_t)m, n); break;
-    case 19: {
+    case 19: a.value = rainbow_is_marked((uint32_t)m, n); break;
+    case 20: {
         rainbow_part_place part = rainbow_glyph_part(b[0], l[0], (uint8_t)m);
         a.refusal = part.refusal;
         a.value = part.at;
@@ -163,7 +166,7 @@ static bool serve(void)
     uint8_t function, buffers;
     rainbow_machine machine;
     uint64_t m, n;
-    if (!take(&function, 1) || function > 20 || !take(&machine, sizeof machine))
+    if (!take(&function, 1) || function > 21 || !take(&machine, sizeof machine))
         return false;
     if (!take_number(&m) || !take_number(&n) || !take(&buffers, 1) || buffers > BUFFERS)
         return false;

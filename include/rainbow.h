@@ -13,8 +13,9 @@
  * The caller keeps the buffers and lends them for the length of a call; the library keeps nothing, and calls on
  * different buffers may be made from different threads. The machine goes in by value and comes back.
  *
- * A refused call says why by its number, the lowest one that applies; every other number of its answer is 0, no row
- * is named, and no byte lent to it and no field of the machine changes.
+ * A refused call says why by its number. If more than one applies, 1 comes first, then 7 or 8, then the lowest of 2
+ * to 6; the numbers of each call are listed in that order. Every other number of its answer is 0, no row is named, and
+ * no byte lent to it and no field of the machine changes.
  */
 #ifndef RAINBOW_H
 #define RAINBOW_H
@@ -29,7 +30,7 @@ extern "C" {
 
 /* Raised by every new call and every change of a number, a struct or a rule of this file. rainbow_version() is the
  * library's own. */
-#define RAINBOW_VERSION 4
+#define RAINBOW_VERSION 5
 
 /* The length of each buffer, in bytes. */
 #define RAINBOW_SHARED_BYTES 65536
@@ -51,6 +52,7 @@ extern "C" {
 #define RAINBOW_REFUSED_PLACE 5    /* a row over 23, a scan outside 1 to 10, a shadow place over 255 */
 #define RAINBOW_REFUSED_EDGES 6    /* bits 6 and 7 of port 0A both rise in one write */
 #define RAINBOW_REFUSED_Z80_HELD 7 /* the Z80 is held: bit 0 of port 0A is 0 */
+#define RAINBOW_REFUSED_IN_RESET 8 /* the 8088 is in reset, by the watchdog */
 
 /* The picture: a record for each row. A record is the row's start (two bytes, high byte first), its kind, its
  * count, then 132 pairs of character and attribute. The count is the cells before FF, or one of the two below. */
@@ -76,6 +78,8 @@ typedef struct rainbow_machine {
     bool interrupt;  /* the vertical interrupt */
     bool reverse;    /* reverse field */
     bool watchdog;   /* the watchdog is enabled */
+    uint8_t count;   /* the watchdog's count of ticks, 0 to 127; a larger one is as 127 */
+    bool reset;      /* the 8088 is in reset */
     uint8_t held;    /* the byte that port 0A holds */
 } rainbow_machine;
 
@@ -120,9 +124,9 @@ typedef struct rainbow_part_place {
 #endif
 RAINBOW_SIZE(size_t, 8);
 RAINBOW_SIZE(bool, 1);
-RAINBOW_SIZE(rainbow_machine, 9);
+RAINBOW_SIZE(rainbow_machine, 11);
 RAINBOW_SIZE(rainbow_byte_read, 2);
-RAINBOW_SIZE(rainbow_written, 10);
+RAINBOW_SIZE(rainbow_written, 12);
 RAINBOW_SIZE(rainbow_drawn, 6);
 RAINBOW_SIZE(rainbow_stored, 8);
 RAINBOW_SIZE(rainbow_part_place, 24);
@@ -133,8 +137,16 @@ uint32_t rainbow_version(void);
 /* The machine at power-up: port 0A holds 00, so the Z80 is held; 80 columns, 60 Hz, not interlaced, all else clear. */
 rainbow_machine rainbow_power_up(void);
 
-/* A vertical tick: sets the vertical interrupt. */
+/* A vertical tick: sets the vertical interrupt. It never moves the watchdog's count. */
 rainbow_machine rainbow_vertical_tick(rainbow_machine machine);
+
+/* A tick of the watchdog's clock, which on the Rainbow comes each 0.85 ms. While the watchdog is enabled, reset of the
+ * 8088 begins at the 128th tick after the last accepted code 09, enabling or end of reset. It ends at the 128th tick
+ * after it began, with the count 0 and the watchdog still enabled. Nothing else in the machine changes. While the
+ * watchdog is disabled a tick makes the count 0; but in reset a tick counts in any case, so that every reset ends.
+ * In reset every access of the 8088 is refused by 8: a read, both stores, those to the shadow, and a write to a port.
+ * The calls of the Z80, drawings, scan lines and both ticks go on. */
+rainbow_machine rainbow_watchdog_tick(rainbow_machine machine);
 
 /* The column setting: 80 or 132. */
 size_t rainbow_columns(rainbow_machine machine);
@@ -154,25 +166,27 @@ bool rainbow_graphics(rainbow_machine machine);
 /* Writes a code to a port.
  * 04: 00 sets 80 columns, 10 sets 132, and both set interlace; 20 sets 60 Hz, 30 sets 50 Hz, and both clear it.
  * 0C, 10C: 00 to 03 load the low two bits of the scroll latch, 04 to 07 its high two bits, 08 toggles the blink
- * flip-flop, 09 clears the vertical interrupt, 0A sets reverse field, 0B clears it. An accepted write to 0C also
- * enables the watchdog, one to 10C disables it.
+ * flip-flop, 09 clears the vertical interrupt and sets the watchdog's count to 0, 0A sets reverse field, 0B clears
+ * it. An accepted write to 0C also enables the watchdog, one to 10C disables it, and both set the count to 0; but if
+ * the watchdog was enabled before, a write to 0C of any code but 09 leaves the count.
  * 0A: every byte is a code, and is held; the Z80 runs only while bit 0 of it is set. Bit 6 going from 0 to 1 copies
  * shadow to NVM, bit 7 going from 0 to 1 copies NVM to shadow.
  * Draw the picture afresh after a change of the column setting.
- * Refused: 1, 3, 4, 6. */
+ * Refused: 1, 8, 3, 4, 6. */
 rainbow_written rainbow_write_port(rainbow_machine machine, uint8_t *shadow, size_t shadow_length, uint8_t *nvm,
                                    size_t nvm_length, uint16_t port, uint8_t code);
 
 /* What the 8088 reads: shared at 00000 to 0FFFF, screen at EE000 to EEFFF, attribute at EF000 to EFFFF.
- * Refused: 1, 2. */
-rainbow_byte_read rainbow_read_8088(const uint8_t *shared, size_t shared_length, const uint8_t *screen,
-                                    size_t screen_length, const uint8_t *attribute, size_t attribute_length,
-                                    uint32_t address);
+ * Refused: 1, 8, 2. */
+rainbow_byte_read rainbow_read_8088(rainbow_machine machine, const uint8_t *shared, size_t shared_length,
+                                    const uint8_t *screen, size_t screen_length, const uint8_t *attribute,
+                                    size_t attribute_length, uint32_t address);
 
 /* The 8088's store with no picture lent: changes the one byte, and leaves a kept picture behind.
- * The answer is the refusal: 1, 2. */
-uint8_t rainbow_store_8088(uint8_t *shared, size_t shared_length, uint8_t *screen, size_t screen_length,
-                           uint8_t *attribute, size_t attribute_length, uint32_t address, uint8_t byte);
+ * The answer is the refusal: 1, 8, 2. */
+uint8_t rainbow_store_8088(rainbow_machine machine, uint8_t *shared, size_t shared_length, uint8_t *screen,
+                           size_t screen_length, uint8_t *attribute, size_t attribute_length, uint32_t address,
+                           uint8_t byte);
 
 /* What the Z80 reads: private at 0000 to 07FF and, from 0800 to FFFF, the shared byte of the same address.
  * Refused: 1, 7. */
@@ -183,11 +197,13 @@ rainbow_byte_read rainbow_read_z80(rainbow_machine machine, const uint8_t *priva
 uint8_t rainbow_store_z80(rainbow_machine machine, uint8_t *private_memory, size_t private_length, uint8_t *shared,
                           size_t shared_length, uint16_t address, uint8_t byte);
 
-/* The shadow by place 0 to 255: a read gives the byte modulo 16. Refused: 1, 5. */
-rainbow_byte_read rainbow_read_shadow(const uint8_t *shadow, size_t shadow_length, size_t place);
+/* The shadow, which is the 8088's, by place 0 to 255: a read gives the byte modulo 16. Refused: 1, 8, 5. */
+rainbow_byte_read rainbow_read_shadow(rainbow_machine machine, const uint8_t *shadow, size_t shadow_length,
+                                      size_t place);
 
-/* A write stores the value modulo 16. The answer is the refusal: 1, 5. */
-uint8_t rainbow_write_shadow(uint8_t *shadow, size_t shadow_length, size_t place, uint8_t value);
+/* A write stores the value modulo 16. The answer is the refusal: 1, 8, 5. */
+uint8_t rainbow_write_shadow(rainbow_machine machine, uint8_t *shadow, size_t shadow_length, size_t place,
+                             uint8_t value);
 
 /* Draws the picture afresh: walks the chain of lines from place 0 at the column setting, 24 rows, and writes the
  * record of each. A row runs to the first FF, the two bytes after which are the next row's start, low byte first;
@@ -202,7 +218,7 @@ rainbow_drawn rainbow_draw(rainbow_machine machine, const uint8_t *screen, size_
 
 /* The 8088's store with a picture lent, for every picture: the byte is stored; the records ahead of the first row
  * that read it stay, those from it on become those of the walk after the store. A true picture stays true.
- * Refused: 1, 2. */
+ * Refused: 1, 8, 2. */
 rainbow_stored rainbow_store_with_picture(rainbow_machine machine, uint8_t *shared, size_t shared_length,
                                           uint8_t *screen, size_t screen_length, uint8_t *attribute,
                                           size_t attribute_length, uint8_t *picture, size_t picture_length,

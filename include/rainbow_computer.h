@@ -30,7 +30,7 @@ typedef struct rainbow_computer {
     rainbow_machine machine;
 } rainbow_computer;
 
-RAINBOW_SIZE(rainbow_computer, 88013);
+RAINBOW_SIZE(rainbow_computer, 88015);
 
 /* What a record of the picture says of its row. */
 typedef struct rainbow_row {
@@ -59,6 +59,7 @@ static inline const char *rainbow_refusal_text(uint8_t refusal)
     case RAINBOW_REFUSED_PLACE: return "a row over 23, a scan outside 1 to 10, a shadow place over 255";
     case RAINBOW_REFUSED_EDGES: return "bits 6 and 7 of port 0A both rise in one write";
     case RAINBOW_REFUSED_Z80_HELD: return "the Z80 is held";
+    case RAINBOW_REFUSED_IN_RESET: return "the 8088 is in reset";
     default: return "no number of refusal";
     }
 }
@@ -78,14 +79,14 @@ static inline rainbow_drawn rainbow_computer_power_up(rainbow_computer *c)
     return rainbow_computer_draw(c);
 }
 
-/* The 8088 reads. Refused: 2. */
+/* The 8088 reads. Refused: 8, 2. */
 static inline rainbow_byte_read rainbow_computer_read(const rainbow_computer *c, uint32_t address)
 {
-    return rainbow_read_8088(c->shared, sizeof c->shared, c->screen, sizeof c->screen, c->attribute,
+    return rainbow_read_8088(c->machine, c->shared, sizeof c->shared, c->screen, sizeof c->screen, c->attribute,
                              sizeof c->attribute, address);
 }
 
-/* The 8088 stores, and the picture is mended. Refused: 2. */
+/* The 8088 stores, and the picture is mended. Refused: 8, 2. */
 static inline rainbow_stored rainbow_computer_store(rainbow_computer *c, uint32_t address, uint8_t byte)
 {
     return rainbow_store_with_picture(c->machine, c->shared, sizeof c->shared, c->screen, sizeof c->screen,
@@ -107,20 +108,20 @@ static inline uint8_t rainbow_computer_store_z80(rainbow_computer *c, uint16_t a
                              address, byte);
 }
 
-/* The shadow by place. Refused: 5. */
+/* The shadow by place. Refused: 8, 5. */
 static inline rainbow_byte_read rainbow_computer_read_shadow(const rainbow_computer *c, size_t place)
 {
-    return rainbow_read_shadow(c->shadow, sizeof c->shadow, place);
+    return rainbow_read_shadow(c->machine, c->shadow, sizeof c->shadow, place);
 }
 
-/* The answer is the refusal: 5. */
+/* The answer is the refusal: 8, 5. */
 static inline uint8_t rainbow_computer_write_shadow(rainbow_computer *c, size_t place, uint8_t value)
 {
-    return rainbow_write_shadow(c->shadow, sizeof c->shadow, place, value);
+    return rainbow_write_shadow(c->machine, c->shadow, sizeof c->shadow, place, value);
 }
 
 /* Writes a code to a port. If the column setting changes, the picture is drawn afresh; bit r of the marks is set
- * exactly when record r changed. Refused: 3, 4, 6. */
+ * exactly when record r changed. Refused: 8, 3, 4, 6. */
 static inline rainbow_stored rainbow_computer_write_port(rainbow_computer *c, uint16_t port, uint8_t code)
 {
     uint8_t before[RAINBOW_PICTURE_BYTES];
@@ -145,6 +146,12 @@ static inline rainbow_stored rainbow_computer_write_port(rainbow_computer *c, ui
 static inline void rainbow_computer_tick(rainbow_computer *c)
 {
     c->machine = rainbow_vertical_tick(c->machine);
+}
+
+/* A tick of the watchdog's clock. */
+static inline void rainbow_computer_watchdog_tick(rainbow_computer *c)
+{
+    c->machine = rainbow_watchdog_tick(c->machine);
 }
 
 /* Draws a scan of a row into c->line, whose first rainbow_dots_of_line(c->machine) bytes are the dots. The answer is

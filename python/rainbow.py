@@ -17,13 +17,14 @@ from ctypes import c_bool, c_size_t, c_uint8, c_uint16, c_uint32
 from typing import NamedTuple, Optional
 
 # The numbers of include/rainbow.h, by the same names: first its version.
-VERSION = 4
+VERSION = 5
 SHARED_BYTES, PRIVATE_BYTES = 65536, 2048
 SCREEN_BYTES, ATTRIBUTE_BYTES, GLYPH_BYTES = 4096, 4096, 4096
 NVM_BYTES, SHADOW_BYTES = 256, 256
 PICTURE_BYTES, LINE_BYTES = 6432, 1188
 ACCEPTED, REFUSED_LENGTH, REFUSED_ADDRESS, REFUSED_PORT = 0, 1, 2, 3
-REFUSED_CODE, REFUSED_PLACE, REFUSED_EDGES, REFUSED_Z80_HELD = 4, 5, 6, 7
+REFUSED_CODE, REFUSED_PLACE, REFUSED_EDGES = 4, 5, 6
+REFUSED_Z80_HELD, REFUSED_IN_RESET = 7, 8
 ROWS, RECORD_BYTES, KIND_AT, COUNT_AT, PAIRS_AT = 24, 268, 2, 3, 4
 PAIRS = 132
 TORN, DARK = 255, 254
@@ -39,11 +40,12 @@ REFUSAL_TEXTS = (
     "a row over 23, a scan outside 1 to 10, a shadow place over 255",
     "bits 6 and 7 of port 0A both rise in one write",
     "the Z80 is held",
+    "the 8088 is in reset",
 )
 
 
 class Refused(Exception):
-    """A call was refused: `number` says why, 1 to 7, and `text` says it in words."""
+    """A call was refused: `number` says why, 1 to 8, and `text` says it in words."""
 
     def __init__(self, number):
         super().__init__(number)
@@ -85,11 +87,12 @@ class Row(NamedTuple):
 
 
 class Machine(ctypes.Structure):
-    """The machine's own state."""
+    """The machine's own state. `count` is the watchdog's count of ticks, 0 to 127; `reset` says
+    whether the 8088 is in reset."""
 
     _fields_ = [("columns132", c_bool), ("hertz50", c_bool), ("interlace", c_bool),
                 ("latch", c_uint8), ("blink", c_bool), ("interrupt", c_bool), ("reverse", c_bool),
-                ("watchdog", c_bool), ("held", c_uint8)]
+                ("watchdog", c_bool), ("count", c_uint8), ("reset", c_bool), ("held", c_uint8)]
 
     def __repr__(self):
         fields = (f"{name}={getattr(self, name)}" for name, _ in self._fields_)
@@ -127,18 +130,19 @@ FUNCTIONS = {
     "rainbow_version": (c_uint32, []),
     "rainbow_power_up": (Machine, []),
     "rainbow_vertical_tick": (Machine, [Machine]),
+    "rainbow_watchdog_tick": (Machine, [Machine]),
     "rainbow_columns": (c_size_t, [Machine]),
     "rainbow_scroll_latch": (c_uint8, [Machine]),
     "rainbow_z80_runs": (c_bool, [Machine]),
     "rainbow_blanked": (c_bool, [Machine]),
     "rainbow_graphics": (c_bool, [Machine]),
     "rainbow_write_port": (Written, [Machine] + _LENT * 2 + [c_uint16, c_uint8]),
-    "rainbow_read_8088": (ByteRead, _LENT * 3 + [c_uint32]),
-    "rainbow_store_8088": (c_uint8, _LENT * 3 + [c_uint32, c_uint8]),
+    "rainbow_read_8088": (ByteRead, [Machine] + _LENT * 3 + [c_uint32]),
+    "rainbow_store_8088": (c_uint8, [Machine] + _LENT * 3 + [c_uint32, c_uint8]),
     "rainbow_read_z80": (ByteRead, [Machine] + _LENT * 2 + [c_uint16]),
     "rainbow_store_z80": (c_uint8, [Machine] + _LENT * 2 + [c_uint16, c_uint8]),
-    "rainbow_read_shadow": (ByteRead, _LENT + [c_size_t]),
-    "rainbow_write_shadow": (c_uint8, _LENT + [c_size_t, c_uint8]),
+    "rainbow_read_shadow": (ByteRead, [Machine] + _LENT + [c_size_t]),
+    "rainbow_write_shadow": (c_uint8, [Machine] + _LENT + [c_size_t, c_uint8]),
     "rainbow_draw": (Drawn, [Machine] + _LENT * 3),
     "rainbow_store_with_picture": (Stored, [Machine] + _LENT * 4 + [c_uint32, c_uint8]),
     "rainbow_is_marked": (c_bool, [c_uint32, c_size_t]),
@@ -228,13 +232,13 @@ class Computer(ctypes.Structure):
         self.glyphs[:] = _copy(table, GLYPH_BYTES)
 
     def read(self, address):
-        """The byte that the 8088 reads. Refused: 2."""
+        """The byte that the 8088 reads. Refused: 8, 2."""
         memories = self.shared, self.screen, self.attribute
-        return _call("rainbow_read_8088", *memories, address).byte
+        return _call("rainbow_read_8088", self.machine, *memories, address).byte
 
     def store(self, address, byte):
         """The 8088 stores, and the picture is mended. The answer is the marks: bit r is set exactly
-        when record r changed. Refused: 2."""
+        when record r changed. Refused: 8, 2."""
         memories = self.shared, self.screen, self.attribute, self.picture
         return _call("rainbow_store_with_picture", self.machine, *memories, address, byte).marks
 
@@ -249,16 +253,16 @@ class Computer(ctypes.Structure):
         _call("rainbow_store_z80", self.machine, *memories, address, byte)
 
     def read_shadow(self, place):
-        """The byte at a place of the shadow, modulo 16. Refused: 5."""
-        return _call("rainbow_read_shadow", self.shadow, place).byte
+        """The byte at a place of the shadow, modulo 16. Refused: 8, 5."""
+        return _call("rainbow_read_shadow", self.machine, self.shadow, place).byte
 
     def write_shadow(self, place, value):
-        """Writes the value, modulo 16, to a place of the shadow. Refused: 5."""
-        _call("rainbow_write_shadow", self.shadow, place, value)
+        """Writes the value, modulo 16, to a place of the shadow. Refused: 8, 5."""
+        _call("rainbow_write_shadow", self.machine, self.shadow, place, value)
 
     def write_port(self, port, code):
         """Writes a code to a port. If the column setting changes, the picture is drawn afresh, and
-        the answer is the marks of the records that changed, else 0. Refused: 3, 4, 6."""
+        the answer is the marks of the records that changed, else 0. Refused: 8, 3, 4, 6."""
         columns = self.columns
         written = _call("rainbow_write_port", self.machine, self.shadow, self.nvm, port, code)
         self.machine = written.machine
@@ -271,6 +275,12 @@ class Computer(ctypes.Structure):
     def tick(self):
         """A vertical tick: sets the vertical interrupt."""
         self.machine = library.rainbow_vertical_tick(self.machine)
+
+    def watchdog_tick(self):
+        """A tick of the watchdog's clock, 0.85 ms on the Rainbow. While the watchdog is enabled,
+        reset of the 8088 begins at the 128th tick after the last code 09, enabling or end of reset,
+        and ends at the 128th tick after it began. In reset the 8088's calls are refused by 8."""
+        self.machine = library.rainbow_watchdog_tick(self.machine)
 
     def scan_line(self, row, scan):
         """Draws scan 1 to 10 of a row into `line`. The answer is its dots, 0 to 3 each.
@@ -336,10 +346,10 @@ class Computer(ctypes.Structure):
 
 
 # The sizes in bytes that the library was made for.
-SIZES = {"size_t": (c_size_t, 8), "bool": (c_bool, 1), "rainbow_machine": (Machine, 9),
-         "rainbow_byte_read": (ByteRead, 2), "rainbow_written": (Written, 10),
+SIZES = {"size_t": (c_size_t, 8), "bool": (c_bool, 1), "rainbow_machine": (Machine, 11),
+         "rainbow_byte_read": (ByteRead, 2), "rainbow_written": (Written, 12),
          "rainbow_drawn": (Drawn, 6), "rainbow_stored": (Stored, 8),
-         "rainbow_part_place": (PartPlace, 24), "rainbow_computer": (Computer, 88013)}
+         "rainbow_part_place": (PartPlace, 24), "rainbow_computer": (Computer, 88015)}
 
 
 def check_sizes(sizes):

@@ -1,7 +1,7 @@
 """Tests of rainbow.py and rows.py: python3 -m unittest discover -s python
 
-The cases P1 to P13 are those of document 01; wild links are those of document 02, ticket 1, and a
-Z80 that is held is that of ticket 2.
+The cases P1 to P13 are those of document 01; wild links are those of document 02, ticket 1, a Z80
+that is held is that of ticket 2, and the watchdog that of ticket 3.
 """
 import copy
 import ctypes
@@ -356,13 +356,232 @@ class Held(Case):
         self.assertEqual(str(caught.exception), "7, the Z80 is held")
 
 
+class Watchdog(Case):
+    """Reset of the 8088 begins at the 128th tick without code 09, and ends at the 128th after."""
+
+    def setUp(self):
+        super().setUp()
+        self.computer.store(SCREEN, 0x41)
+        self.computer.write_port(0x0A, 0x03)  # the Z80 runs, and the display is not blanked
+
+    def ticks(self, many):
+        """So many ticks of the watchdog's clock."""
+        for _ in range(many):
+            self.computer.watchdog_tick()
+
+    def into_reset(self):
+        """The watchdog is enabled, and reset begins."""
+        self.computer.write_port(0x0C, 0x00)
+        self.ticks(128)
+        self.assertIs(self.computer.machine.reset, True)
+
+    def watch(self, count, reset, watchdog):
+        """The watchdog's part of the machine. In reset the 8088 is refused by 8, and else not."""
+        machine = self.computer.machine
+        wanted = (count, reset, watchdog)
+        self.assertEqual((machine.count, machine.reset, machine.watchdog), wanted)
+        if reset:
+            self.refused(8, self.computer.read, SCREEN)
+        else:
+            self.assertEqual(self.computer.read(SCREEN), 0x41)
+
+    def test_power_up(self):
+        self.watch(0, False, False)
+
+    def test_begins_at_tick_128(self):
+        for code in range(12):  # each of them enables
+            self.computer.write_port(0x0C, code)
+            self.watch(0, False, True)
+            self.ticks(1)
+            self.watch(1, False, True)
+            self.ticks(126)
+            self.watch(127, False, True)
+            self.ticks(1)
+            self.watch(0, True, True)
+            self.ticks(128)
+            self.computer.write_port(0x10C, 0x00)
+
+    def test_ends_at_tick_256(self):
+        self.into_reset()
+        for _ in range(3):  # it begins again, as long as no code 09 comes
+            self.watch(0, True, True)
+            self.ticks(127)
+            self.watch(127, True, True)
+            self.ticks(1)
+            self.watch(0, False, True)
+            self.ticks(127)
+            self.watch(127, False, True)
+            self.ticks(1)
+
+    def test_acknowledged_in_time(self):
+        self.computer.write_port(0x0C, 0x00)
+        for _ in range(20):
+            self.ticks(127)
+            self.watch(127, False, True)
+            self.computer.write_port(0x0C, 0x09)
+            self.watch(0, False, True)
+        self.ticks(128)
+        self.watch(0, True, True)
+
+    def test_nothing_else_changes(self):
+        for byte, number in ((False, 0x00), (True, 0xFF)):
+            machine = rainbow.Machine(*[byte] * 3, number, *[byte] * 3, True, 0, False, number)
+            self.computer.machine = machine
+            before = bytes(self.computer)
+            at = Computer.machine.offset + rainbow.Machine.count.offset
+            for tick in range(1, 257):
+                self.computer.watchdog_tick()
+                wanted = bytearray(before)
+                wanted[at:at + 2] = tick % 128, 128 <= tick < 256
+                self.assertEqual(bytes(self.computer), bytes(wanted), tick)
+
+    def test_refused_in_reset(self):
+        computer = self.computer
+        for enabled in (True, False):
+            self.into_reset()
+            computer.machine.watchdog = enabled
+            for address in (0x00000, 0x0FFFF, SCREEN, ATTRIBUTE, 0xEFFFF):
+                self.refused(8, computer.read, address)
+                self.refused(8, computer.store, address, 0x5A)
+            for place in (0, 255):
+                self.refused(8, computer.read_shadow, place)
+                self.refused(8, computer.write_shadow, place, 0x0A)
+            for port in (0x0C, 0x10C):
+                for code in range(12):
+                    self.refused(8, computer.write_port, port, code)
+            for port, code in ((0x04, 0x10), (0x04, 0x20), (0x0A, 0x43), (0x0A, 0x00)):
+                self.refused(8, computer.write_port, port, code)
+            self.ticks(128)
+            self.watch(0, False, enabled)
+
+    def test_ahead_of_2_to_6(self):
+        computer = self.computer
+        cases = ((2, computer.read, 0x10000), (2, computer.store, 0xFFFFFFFF, 1),
+                 (3, computer.write_port, 5, 0), (4, computer.write_port, 0x04, 0x01),
+                 (4, computer.write_port, 0x0C, 0x0C), (4, computer.write_port, 0x10C, 0xFF),
+                 (5, computer.read_shadow, 256), (5, computer.write_shadow, 2 ** 64 - 1, 1),
+                 (6, computer.write_port, 0x0A, 0xC0))
+        for number, *call in cases:
+            self.refused(number, *call)
+        self.into_reset()
+        for _, *call in cases:
+            self.refused(8, *call)
+
+    def test_the_z80_goes_on(self):
+        self.into_reset()
+        for address in (0x07FF, 0x0800):
+            self.computer.store_z80(address, 0x5A)
+            self.assertEqual(self.computer.read_z80(address), 0x5A)
+        self.computer.machine.held = 0x02
+        self.refused(7, self.computer.read_z80, 0x0800)
+        self.refused(7, self.computer.store_z80, 0x0800, 1)
+
+    def test_drawings_and_ticks_go_on(self):
+        self.computer.glyph(0x41)[0] = 0xA5  # scan 2
+        self.computer.attribute[0] = PLAIN
+        self.into_reset()
+        self.assertEqual(self.computer.draw(), Drawing(81, None))
+        self.assertEqual(self.computer.row(0), Row(0, 3, rainbow.TORN, 80))
+        self.assertEqual(self.computer.text(0)[:2], "A.")
+        self.assertEqual(self.computer.scan_line(0, 2)[:8], bytes([2, 0, 2, 0, 0, 2, 0, 2]))
+        self.assertEqual(self.settings(), (80, 800, True, False, False, 0))
+        self.computer.tick()
+        self.assertTrue(self.computer.machine.interrupt)
+        self.watch(0, True, True)
+        self.computer.watchdog_tick()
+        self.watch(1, True, True)
+        self.refused(5, self.computer.scan_line, 24, 1)
+
+    def settings(self):
+        """What the machine is asked."""
+        computer = self.computer
+        return (computer.columns, computer.dots, computer.z80_runs, computer.blanked,
+                computer.graphics, computer.scroll_latch)
+
+    def test_power_up_ends_it(self):
+        self.into_reset()
+        self.computer.power_up()
+        self.watch(0, False, False)
+
+    def test_other_codes_leave_the_count(self):
+        self.computer.write_port(0x0C, 0x00)
+        self.ticks(100)
+        for code in range(12):
+            if code != 0x09:
+                self.computer.write_port(0x0C, code)
+                self.watch(100, False, True)
+        for port, code in ((0x04, 0x10), (0x04, 0x30), (0x0A, 0x83), (0x0A, 0x43)):
+            self.computer.write_port(port, code)
+            self.watch(100, False, True)
+        self.computer.tick()
+        self.watch(100, False, True)
+        self.ticks(27)
+        self.watch(127, False, True)
+        self.ticks(1)
+        self.watch(0, True, True)
+
+    def test_a_refused_write_leaves_the_count(self):
+        self.computer.write_port(0x0C, 0x00)
+        self.ticks(100)
+        for number, port, code in ((3, 0x10D, 0x09), (4, 0x0C, 0x0C), (4, 0x0C, 0x19),
+                                   (4, 0x10C, 0xFF), (4, 0x04, 0x09), (6, 0x0A, 0xC9)):
+            self.refused(number, self.computer.write_port, port, code)
+            self.watch(100, False, True)
+
+    def test_disabling(self):
+        for code in range(12):
+            self.computer.write_port(0x0C, 0x00)
+            self.ticks(127)
+            self.computer.write_port(0x10C, code)
+            self.watch(0, False, False)
+            self.ticks(300)
+            self.watch(0, False, False)
+
+    def test_enabling(self):
+        for code in range(12):  # a machine that the library never makes: a count while disabled
+            self.computer.machine.watchdog, self.computer.machine.count = False, 100
+            self.computer.write_port(0x0C, code)
+            self.watch(0, False, True)
+            self.computer.machine.watchdog, self.computer.machine.count = False, 200
+            self.computer.write_port(0x10C, code)
+            self.watch(0, False, False)
+
+    def test_reset_while_disabled(self):
+        self.computer.machine.reset = True
+        self.ticks(127)
+        self.watch(127, True, False)
+        self.ticks(1)
+        self.watch(0, False, False)
+        self.ticks(300)
+        self.watch(0, False, False)
+
+    def test_every_machine(self):
+        for count in range(256):
+            for reset, watchdog in ((False, False), (False, True), (True, False), (True, True)):
+                machine = self.computer.machine
+                machine.count, machine.reset, machine.watchdog = count, reset, watchdog
+                self.computer.watchdog_tick()
+                if not reset and not watchdog:
+                    self.watch(0, False, False)
+                elif count < 127:
+                    self.watch(count + 1, reset, watchdog)
+                else:
+                    self.watch(0, not reset, watchdog)
+
+    def test_says_why(self):
+        self.into_reset()
+        with self.assertRaises(Refused) as caught:
+            self.computer.write_port(0x0C, 0x09)
+        self.assertEqual(str(caught.exception), "8, the 8088 is in reset")
+
+
 class Calls(Case):
     """Each method beside the rule of its call."""
 
     def test_new(self):
         machine_at = Computer.machine.offset
         picture_at = Computer.picture.offset
-        self.assertEqual(bytes(self.computer)[machine_at:], bytes(9))
+        self.assertEqual(bytes(self.computer)[machine_at:], bytes(11))
         self.assertEqual(bytes(self.computer)[:picture_at], bytes(picture_at))
         kept = bytes(self.computer.picture)
         self.assertNotEqual(kept, bytes(6432))
@@ -559,7 +778,7 @@ class Headers(unittest.TestCase):
 
     def test_numbers(self):
         wanted = defines(self.calls)
-        self.assertGreaterEqual(len(wanted), 27)
+        self.assertGreaterEqual(len(wanted), 28)
         self.assertEqual({name: getattr(rainbow, name, None) for name in wanted}, wanted)
         pairs = (rainbow.RECORD_BYTES - rainbow.PAIRS_AT) // 2
         self.assertEqual(rainbow.PAIRS, pairs)
@@ -589,7 +808,7 @@ class Headers(unittest.TestCase):
 
     def test_functions(self):
         wanted = declarations(self.calls)
-        self.assertEqual(len(wanted), 21)
+        self.assertEqual(len(wanted), 22)
         self.assertEqual(list(rainbow.FUNCTIONS), list(wanted))
         for name, (answer, given) in wanted.items():
             function = getattr(rainbow.library, name)
@@ -599,7 +818,7 @@ class Headers(unittest.TestCase):
     def test_methods(self):
         """Each function of rainbow_computer.h is a method."""
         names = re.findall(r"^static inline .*\brainbow_computer_(\w+)\(", self.whole, flags=re.M)
-        self.assertEqual(len(names), 14)
+        self.assertEqual(len(names), 15)
         for name in names:
             self.assertTrue(callable(getattr(Computer, name)), name)
 
@@ -608,7 +827,7 @@ class Headers(unittest.TestCase):
         found = re.findall(r'case RAINBOW_(\w+): return "(.*)";', self.whole)
         wanted = {numbers[name]: text for name, text in found}
         self.assertEqual(dict(enumerate(rainbow.REFUSAL_TEXTS)), wanted)
-        self.assertEqual(list(wanted), list(range(8)))
+        self.assertEqual(list(wanted), list(range(9)))
 
 
 class Lent(Case):
@@ -616,6 +835,8 @@ class Lent(Case):
 
     numbers = {"address": SCREEN, "byte": 1, "value": 1, "place": 0, "port": 0x0C, "code": 8,
                "row": 0, "scan": 1}
+    of_the_8088 = {"rainbow_write_port", "rainbow_read_8088", "rainbow_store_8088",
+                   "rainbow_read_shadow", "rainbow_write_shadow", "rainbow_store_with_picture"}
 
     def arguments(self, given):
         """Arguments that are accepted, a buffer of the computer for each pointer."""
@@ -661,6 +882,10 @@ class Lent(Case):
             self.assertEqual(bytes(self.computer), before, name)
             if name.endswith("_z80"):
                 self.held_refused(name, call, arguments, lengths)
+            if name in self.of_the_8088:
+                self.reset_refused(name, call, arguments, lengths)
+            else:
+                self.assertEqual(self.in_reset(call, arguments), 0, name)
             self.assertEqual(self.refusal(call(*arguments)), 0, name)
         self.assertEqual(functions, 11)
 
@@ -670,6 +895,23 @@ class Lent(Case):
         self.assertEqual(self.refusal(call(*held)), 7, name)
         for at in lengths:
             self.one_refused(name, call, held, at)
+        self.assertEqual(bytes(self.computer), before, name)
+
+    def in_reset(self, call, arguments):
+        """The refusal while the 8088 is in reset. The arguments have the computer's own machine."""
+        self.computer.machine.reset = True
+        refusal = self.refusal(call(*arguments))
+        self.computer.machine.reset = False
+        return refusal
+
+    def reset_refused(self, name, call, arguments, lengths):
+        """The 8088 is in reset: 8, but 1 where a length is wrong too."""
+        before = bytes(self.computer)
+        self.assertEqual(self.in_reset(call, arguments), 8, name)
+        self.computer.machine.reset = True
+        for at in lengths:
+            self.one_refused(name, call, arguments, at)
+        self.computer.machine.reset = False
         self.assertEqual(bytes(self.computer), before, name)
 
     def one_refused(self, name, call, arguments, at):
@@ -714,7 +956,7 @@ class Runs(Case):
         """Makes one call. The answer is its name, its marks if it has any, and a read that must
         give the byte stored, if one was."""
         computer, below, byte = self.computer, self.random.randrange, self.byte()
-        kind = below(10)
+        kind = below(11)
         if kind < 6:
             address = (below(0x10000) if kind == 0 else SCREEN - 32 + below(0x2040) if kind == 1
                        else self.in_a_row())
@@ -733,6 +975,11 @@ class Runs(Case):
             place = below(300)
             computer.write_shadow(place, byte)
             return "write_shadow", 0, (computer.read_shadow, place, byte % 16)
+        if kind == 9:
+            for _ in range(below(100)):
+                computer.watchdog_tick()
+            computer.tick()
+            return "ticks", 0, None
         computer.scan_line(below(26), below(12))
         return "scan_line", 0, None
 
@@ -785,9 +1032,10 @@ class Runs(Case):
                 self.assertEqual(bytes(self.computer.picture), self.drawn_afresh())
         self.assertEqual(bytes(self.computer.picture), self.drawn_afresh())
         # The run went everywhere that it should.
-        for name, least in (("store", 8000), ("store_z80", 500), (7, 500), ("write_port", 500),
-                            ("write_shadow", 500), ("scan_line", 500), ("marks", 500),
-                            ("columns", 100), (2, 5), (3, 100), (4, 100), (5, 100), (6, 1)):
+        for name, least in (("store", 6000), ("store_z80", 500), (7, 500), ("write_port", 500),
+                            ("write_shadow", 500), ("scan_line", 500), ("ticks", 500), (8, 2000),
+                            ("marks", 500), ("columns", 100), (2, 5), (3, 100), (4, 100), (5, 100),
+                            (6, 1)):
             self.assertGreaterEqual(seen.get(name, 0), least, name)
         self.assertLessEqual({None, 0, 1, 2, 3, 4}, self.named)
 
@@ -903,9 +1151,9 @@ class Finding(unittest.TestCase):
         with tempfile.TemporaryDirectory() as folder:
             os.mkdir(os.path.join(folder, "python"))
             shutil.copy(os.path.join(HERE, "rainbow.py"), os.path.join(folder, "python"))
-            shutil.copy(file, os.path.join(folder, "librainbow.so.4"))
+            shutil.copy(file, os.path.join(folder, "librainbow.so.5"))
             told = self.imported(os.path.join(folder, "python"), LD_LIBRARY_PATH=folder)
-            self.assertEqual(told, "librainbow.so.4\n")
+            self.assertEqual(told, "librainbow.so.5\n")
 
     def library_file(self):
         """The file of the library that is being tested."""
@@ -927,7 +1175,7 @@ class Finding(unittest.TestCase):
 
     def test_order(self):
         built = os.path.join(os.path.realpath(ROOT), "target", "library", "librainbow.so")
-        places = [built, "librainbow.so.4", "librainbow.so"]
+        places = [built, "librainbow.so.5", "librainbow.so"]
         self.assertEqual(self.tried(None), places)
         self.assertEqual(self.tried("librainbow.so.9"), places + ["librainbow.so.9"])
         self.assertEqual(self.tried("librainbow.so.9", RAINBOW_LIBRARY="/a/b"), ["/a/b"])
@@ -935,12 +1183,12 @@ class Finding(unittest.TestCase):
 
     def test_version(self):
         self.assertEqual(rainbow.library.rainbow_version(), rainbow.VERSION)
-        other = types.SimpleNamespace(rainbow_version=lambda: 3)
-        with self.assertRaisesRegex(ImportError, "version 3, .* for 4$"):
+        other = types.SimpleNamespace(rainbow_version=lambda: 4)
+        with self.assertRaisesRegex(ImportError, "version 4, .* for 5$"):
             rainbow.set_up(other)
 
     def test_function_missing(self):
-        other = types.SimpleNamespace(rainbow_version=lambda: 4)
+        other = types.SimpleNamespace(rainbow_version=lambda: 5)
         with self.assertRaisesRegex(ImportError, "rainbow_power_up"):
             rainbow.set_up(other)
 

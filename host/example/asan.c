@@ -18,9 +18,9 @@ enum { MOST_READS = 3240 }; /* of a drawing, at 132 columns */
 
 static uint8_t *buffers[WAYS][BUFFERS];
 static uint8_t *fence; /* a page that may not be touched */
-static uint8_t *fenced_private, *fenced_shared; /* buffers of which no byte may be touched */
+static uint8_t *closed[BUFFERS]; /* buffers of which no byte may be touched */
 static size_t page;
-static unsigned long calls, named, z80_ran, z80_held;
+static unsigned long calls, named, z80_ran, z80_held, ran_8088, reset_8088;
 static uint64_t seed = 0x9E3779B97F4A7C15u;
 
 static uint32_t below(uint32_t n)
@@ -64,8 +64,8 @@ static uint8_t *untouched(size_t length)
 static void make_buffers(void)
 {
     page = (size_t)sysconf(_SC_PAGESIZE);
-    fenced_private = untouched(listed[PRIVATE]);
-    fenced_shared = untouched(listed[SHARED]);
+    for (int buffer = 0; buffer < BUFFERS; buffer++)
+        closed[buffer] = untouched(listed[buffer]);
     for (int way = 0; way < WAYS; way++)
         for (int buffer = 0; buffer < BUFFERS; buffer++) {
             uint8_t *bytes = way == ON_HEAP ? (uint8_t *)malloc(listed[buffer]) : fenced(listed[buffer], way);
@@ -97,11 +97,30 @@ static uint32_t address(void)
     }
 }
 
+/* An access of the 8088 with buffers of the listed lengths is refused by 8 exactly while the 8088 is in reset. */
+static void refused_8088(rainbow_machine machine, uint8_t refusal)
+{
+    if ((refusal == RAINBOW_REFUSED_IN_RESET) != machine.reset)
+        fail("the 8088 is not refused as it should be");
+    *(machine.reset ? &reset_8088 : &ran_8088) += 1;
+}
+
 static rainbow_machine write_any_port(rainbow_machine machine, uint8_t **b)
 {
-    static const uint16_t ports[] = {0x04, 0x0A, 0x0C, 0x10C, 0x10A};
-    uint8_t code = below(2) == 0 ? (uint8_t)(below(4) << 4) : any();
-    return rainbow_write_port(machine, b[SHADOW], listed[SHADOW], b[NVM], listed[NVM], ports[below(5)], code).machine;
+    static const uint16_t ports[] = {0x04, 0x0A, 0x0C, 0x0C, 0x10C, 0x10A};
+    uint8_t code = below(3) == 0 ? any() : below(2) == 0 ? (uint8_t)below(12) : (uint8_t)(below(4) << 4);
+    rainbow_written written =
+        rainbow_write_port(machine, b[SHADOW], listed[SHADOW], b[NVM], listed[NVM], ports[below(6)], code);
+    refused_8088(machine, written.refusal);
+    return written.machine;
+}
+
+/* Ticks of both kinds, which are lent nothing. */
+static rainbow_machine tick(rainbow_machine machine)
+{
+    for (uint32_t ticks = below(200); ticks > 0; ticks--)
+        machine = rainbow_watchdog_tick(machine);
+    return below(2) == 0 ? rainbow_vertical_tick(machine) : machine;
 }
 
 static uint8_t draw(rainbow_machine machine, uint8_t **b, int into)
@@ -133,8 +152,8 @@ static void call(rainbow_machine machine, uint8_t **b)
     uint8_t byte = below(5) == 0 ? 0xFF : any();
     switch (below(8)) {
     case 0:
-        rainbow_read_8088(b[SHARED], listed[SHARED], b[SCREEN], listed[SCREEN], b[ATTRIBUTE], listed[ATTRIBUTE],
-                          address());
+        refused_8088(machine, rainbow_read_8088(machine, b[SHARED], listed[SHARED], b[SCREEN], listed[SCREEN],
+                                                b[ATTRIBUTE], listed[ATTRIBUTE], address()).refusal);
         break;
     case 1:
         z80_refused(machine, rainbow_read_z80(machine, b[PRIVATE], listed[PRIVATE], b[SHARED], listed[SHARED],
@@ -144,22 +163,24 @@ static void call(rainbow_machine machine, uint8_t **b)
         z80_refused(machine, rainbow_store_z80(machine, b[PRIVATE], listed[PRIVATE], b[SHARED], listed[SHARED], z80,
                                                any()));
         break;
-    case 3: rainbow_read_shadow(b[SHADOW], listed[SHADOW], place); break;
-    case 4: rainbow_write_shadow(b[SHADOW], listed[SHADOW], place, any()); break;
+    case 3: refused_8088(machine, rainbow_read_shadow(machine, b[SHADOW], listed[SHADOW], place).refusal); break;
+    case 4: refused_8088(machine, rainbow_write_shadow(machine, b[SHADOW], listed[SHADOW], place, any())); break;
     case 5:
         rainbow_scan_line(machine, b[PICTURE], listed[PICTURE], b[GLYPHS], listed[GLYPHS],
                           below(RAINBOW_ROWS + 2), below(RAINBOW_LAST_SCAN + 2), b[LINE], listed[LINE]);
         break;
     default:
-        rainbow_store_with_picture(machine, b[SHARED], listed[SHARED], b[SCREEN], listed[SCREEN], b[ATTRIBUTE],
-                                   listed[ATTRIBUTE], b[PICTURE], listed[PICTURE], address(), byte);
+        refused_8088(machine, rainbow_store_with_picture(machine, b[SHARED], listed[SHARED], b[SCREEN], listed[SCREEN],
+                                                         b[ATTRIBUTE], listed[ATTRIBUTE], b[PICTURE], listed[PICTURE],
+                                                         address(), byte).refusal);
     }
 }
 
-/* A buffer that is refused by its length is not touched, nor are the others of the call. */
+/* A buffer that is refused by its length is not touched, nor are the others of the call. Reset does not matter. */
 static void refused(rainbow_machine machine, uint8_t **b)
 {
     size_t length = listed[PICTURE] - 1 + 2 * below(2);
+    machine.reset = below(2) == 0;
     rainbow_stored stored =
         rainbow_store_with_picture(machine, fence, 7, fence, 7, fence, 7, fence, length, address(), any());
     rainbow_drawn one = rainbow_draw(machine, fence, 1, fence, 2, fence, length);
@@ -168,7 +189,11 @@ static void refused(rainbow_machine machine, uint8_t **b)
                one.wild_row == 0 && other.wild_row == 0 &&
                rainbow_scan_line(machine, fence, length, fence, 0, 0, 1, fence, 3) == 1 &&
                rainbow_glyph_part(fence, length, any()).refusal == 1 &&
-               rainbow_write_shadow(fence, 255, 0, any()) == 1 &&
+               rainbow_read_8088(machine, fence, 7, fence, 0, fence, length, address()).refusal == 1 &&
+               rainbow_store_8088(machine, b[SHARED], listed[SHARED], fence, 7, fence, 0, address(), any()) == 1 &&
+               rainbow_read_shadow(machine, fence, 257, below(300)).refusal == 1 &&
+               rainbow_write_shadow(machine, fence, 255, 0, any()) == 1 &&
+               rainbow_write_port(machine, fence, 255, b[NVM], listed[NVM], 0x0A, any()).refusal == 1 &&
                rainbow_read_z80(machine, fence, listed[PRIVATE] + 1, fence, 0, 0x0800).refusal == 1 &&
                rainbow_store_z80(machine, b[PRIVATE], listed[PRIVATE], fence, length, 0x07FF, any()) == 1;
     if (!all)
@@ -180,12 +205,34 @@ static void held(rainbow_machine machine)
 {
     machine.held &= 0xFE;
     uint16_t address = (uint16_t)below(0x1000);
-    rainbow_byte_read read = rainbow_read_z80(machine, fenced_private, listed[PRIVATE], fenced_shared, listed[SHARED],
-                                              address);
+    rainbow_byte_read read = rainbow_read_z80(machine, closed[PRIVATE], listed[PRIVATE], closed[SHARED],
+                                              listed[SHARED], address);
     if (read.refusal != RAINBOW_REFUSED_Z80_HELD || read.byte != 0 ||
-        rainbow_store_z80(machine, fenced_private, listed[PRIVATE], fenced_shared, listed[SHARED], address, any()) !=
+        rainbow_store_z80(machine, closed[PRIVATE], listed[PRIVATE], closed[SHARED], listed[SHARED], address, any()) !=
             RAINBOW_REFUSED_Z80_HELD)
         fail("a held Z80 is not refused by 7");
+}
+
+/* Nor does an 8088 that is in reset. */
+static void stopped(rainbow_machine machine)
+{
+    uint8_t **n = closed;
+    size_t place = below(300);
+    machine.reset = true;
+    rainbow_byte_read read = rainbow_read_8088(machine, n[SHARED], listed[SHARED], n[SCREEN], listed[SCREEN],
+                                               n[ATTRIBUTE], listed[ATTRIBUTE], address());
+    rainbow_byte_read shadow = rainbow_read_shadow(machine, n[SHADOW], listed[SHADOW], place);
+    rainbow_stored stored =
+        rainbow_store_with_picture(machine, n[SHARED], listed[SHARED], n[SCREEN], listed[SCREEN], n[ATTRIBUTE],
+                                   listed[ATTRIBUTE], n[PICTURE], listed[PICTURE], address(), any());
+    rainbow_written written = rainbow_write_port(machine, n[SHADOW], listed[SHADOW], n[NVM], listed[NVM], 0x0A, any());
+    if (read.refusal != RAINBOW_REFUSED_IN_RESET || read.byte != 0 || shadow.refusal != RAINBOW_REFUSED_IN_RESET ||
+        shadow.byte != 0 || stored.refusal != RAINBOW_REFUSED_IN_RESET || stored.marks != 0 ||
+        written.refusal != RAINBOW_REFUSED_IN_RESET || memcmp(&written.machine, &machine, sizeof machine) != 0 ||
+        rainbow_store_8088(machine, n[SHARED], listed[SHARED], n[SCREEN], listed[SCREEN], n[ATTRIBUTE],
+                           listed[ATTRIBUTE], address(), any()) != RAINBOW_REFUSED_IN_RESET ||
+        rainbow_write_shadow(machine, n[SHADOW], listed[SHADOW], place, any()) != RAINBOW_REFUSED_IN_RESET)
+        fail("an 8088 in reset is not refused by 8");
 }
 
 int main(void)
@@ -196,15 +243,16 @@ int main(void)
         rainbow_machine machine = rainbow_power_up();
         fill(b);
         for (int turn = 0; turn < 10; turn++) {
-            machine = write_any_port(machine, b);
+            machine = tick(write_any_port(machine, b));
             draw(machine, b, PICTURE);
             for (int i = 0; i < 50; i++)
                 call(machine, b);
             refused(machine, b);
             held(machine);
+            stopped(machine);
             if (draw(machine, b, FRESH) != 0 || memcmp(b[PICTURE], b[FRESH], listed[PICTURE]) != 0)
                 fail("the kept picture differs from a fresh one");
-            calls += 63;
+            calls += 73;
         }
     }
     for (int buffer = 0; buffer < BUFFERS; buffer++)
@@ -213,6 +261,8 @@ int main(void)
         fail("no row was named");
     if (z80_ran == 0 || z80_held == 0)
         fail("the Z80 was always held, or never");
+    if (ran_8088 < 1000 || reset_8088 < 1000)
+        fail("the 8088 was seldom in reset, or seldom not");
     printf("%lu calls touched nothing outside of their buffers\n", calls);
     return 0;
 }

@@ -7,7 +7,7 @@
 enum { CALLS = 200000 };
 
 static rainbow_computer c, twin; /* the twin is changed by the calls of rainbow.h alone */
-static uint32_t seed = 1, z80_ran, z80_held;
+static uint32_t seed = 1, z80_ran, z80_held, ran_8088, reset_8088;
 
 static uint32_t below(uint32_t n)
 {
@@ -74,9 +74,12 @@ static void read_and_draw(void)
 {
     uint32_t address = below(2) == 0 ? 0xEDFF0 + below(0x2020) : below(0x20000);
     rainbow_byte_read read = rainbow_computer_read(&c, address);
-    rainbow_byte_read wanted = rainbow_read_8088(twin.shared, sizeof twin.shared, twin.screen, sizeof twin.screen,
-                                                 twin.attribute, sizeof twin.attribute, address);
+    rainbow_byte_read wanted = rainbow_read_8088(twin.machine, twin.shared, sizeof twin.shared, twin.screen,
+                                                 sizeof twin.screen, twin.attribute, sizeof twin.attribute, address);
     expect(read.refusal == wanted.refusal && read.byte == wanted.byte, "a read");
+    bool reset = twin.machine.reset;
+    expect((read.refusal == 8) == reset, "a read in reset, or out of it");
+    *(reset ? &reset_8088 : &ran_8088) += 1;
     uint16_t z80 = (uint16_t)below(0x1000);
     bool runs = twin.machine.held % 2 == 1;
     read = rainbow_computer_read_z80(&c, z80);
@@ -87,8 +90,8 @@ static void read_and_draw(void)
     *(runs ? &z80_ran : &z80_held) += 1;
     size_t place = below(300), row = below(26), scan = below(12);
     read = rainbow_computer_read_shadow(&c, place);
-    expect(read.refusal == (place > 255 ? 5 : 0) && read.byte == (place > 255 ? 0 : twin.shadow[place] % 16),
-           "a read of the shadow");
+    expect(read.refusal == (reset ? 8 : place > 255 ? 5 : 0) &&
+               read.byte == (reset || place > 255 ? 0 : twin.shadow[place] % 16), "a read of the shadow");
     uint8_t refusal = rainbow_scan_line(twin.machine, twin.picture, sizeof twin.picture, twin.glyphs,
                                         sizeof twin.glyphs, row, scan, twin.line, sizeof twin.line);
     expect(rainbow_computer_scan_line(&c, row, scan) == refusal, "a scan line");
@@ -99,7 +102,7 @@ static void one_call(void)
     static const uint16_t ports[] = {0x04, 0x04, 0x0A, 0x0C, 0x10C, 0x05};
     uint8_t byte = below(8) == 0 ? 0xFF : (uint8_t)below(256);
     uint32_t number = below(300);
-    switch (below(8)) {
+    switch (below(9)) {
     case 0: port(ports[below(6)], below(2) == 0 ? (uint8_t)(below(5) << 4) : byte); break;
     case 1: read_and_draw(); break;
     case 2:
@@ -109,11 +112,18 @@ static void one_call(void)
         break;
     case 3:
         expect(rainbow_computer_write_shadow(&c, number, byte) ==
-                   rainbow_write_shadow(twin.shadow, sizeof twin.shadow, number, byte), "a write of the shadow");
+                   rainbow_write_shadow(twin.machine, twin.shadow, sizeof twin.shadow, number, byte),
+               "a write of the shadow");
         break;
     case 4:
         rainbow_computer_tick(&c);
         twin.machine = rainbow_vertical_tick(twin.machine);
+        break;
+    case 5:
+        for (uint32_t ticks = number / 4; ticks > 0; ticks--) {
+            rainbow_computer_watchdog_tick(&c);
+            twin.machine = rainbow_watchdog_tick(twin.machine);
+        }
         break;
     default: store(0xEDFF0 + below(0x2020), byte);
     }
@@ -187,6 +197,56 @@ static void z80(void)
     expect(rainbow_computer_store_z80(&d, 0x7FF, 0) == 7 && d.private_memory[0x7FF] == 0x5A, "a Z80 held again");
 }
 
+static void ticks(rainbow_computer *d, int many)
+{
+    for (; many > 0; many--)
+        rainbow_computer_watchdog_tick(d);
+}
+
+/* An 8088 that is in reset touches no memory and writes to no port. All else goes on. */
+static void watchdog(void)
+{
+    static rainbow_computer d, before;
+    rainbow_computer_power_up(&d);
+    ticks(&d, 1000);
+    expect(!d.machine.reset && d.machine.count == 0, "a watchdog that is disabled");
+    rainbow_computer_write_port(&d, 0x0A, 0x83);
+    rainbow_computer_write_port(&d, 0x0C, 0x08);
+    ticks(&d, 100);
+    rainbow_computer_write_port(&d, 0x0C, 0x09);
+    ticks(&d, 127);
+    expect(!d.machine.reset && rainbow_computer_store(&d, 0xEE000, 'A').refusal == 0, "127 ticks after code 09");
+    ticks(&d, 1);
+    expect(d.machine.reset && d.machine.count == 0 && d.machine.watchdog, "128 ticks after code 09");
+    before = d;
+    rainbow_byte_read read = rainbow_computer_read(&d, 0xEE000);
+    expect(read.refusal == 8 && read.byte == 0 && rainbow_computer_read(&d, 0x10000).refusal == 8, "a read in reset");
+    rainbow_stored stored = rainbow_computer_store(&d, 0xEE000, 'B');
+    expect(stored.refusal == 8 && stored.marks == 0, "a store in reset");
+    read = rainbow_computer_read_shadow(&d, 256);
+    expect(read.refusal == 8 && read.byte == 0, "a read of the shadow in reset");
+    expect(rainbow_computer_write_shadow(&d, 5, 5) == 8, "a write of the shadow in reset");
+    stored = rainbow_computer_write_port(&d, 0x04, 0x10);
+    expect(stored.refusal == 8 && stored.marks == 0, "132 columns in reset");
+    expect(rainbow_computer_write_port(&d, 0x0C, 0x09).refusal == 8, "code 09 in reset");
+    expect(rainbow_computer_write_port(&d, 0x05, 0x00).refusal == 8, "a port that is none, in reset");
+    expect(memcmp(&d, &before, sizeof d) == 0, "the memories, the picture or the machine in reset");
+    expect(rainbow_computer_store_z80(&d, 0x800, 0x5A) == 0 && rainbow_computer_read_z80(&d, 0x800).byte == 0x5A,
+           "the Z80 while the 8088 is in reset");
+    expect(rainbow_computer_draw(&d).refusal == 0 && rainbow_computer_scan_line(&d, 0, 1) == 0, "drawings in reset");
+    rainbow_computer_tick(&d);
+    expect(d.machine.interrupt && d.machine.count == 0, "a vertical tick in reset");
+    ticks(&d, 127);
+    expect(d.machine.reset && d.machine.count == 127, "127 ticks of reset");
+    ticks(&d, 1);
+    expect(!d.machine.reset && d.machine.count == 0 && d.machine.watchdog, "128 ticks of reset");
+    expect(rainbow_computer_read(&d, 0xEE000).byte == 'A' && rainbow_computer_read(&d, 0x00800).byte == 0x5A,
+           "reads after reset");
+    ticks(&d, 127);
+    expect(!d.machine.reset && rainbow_computer_write_port(&d, 0x10C, 0x08).refusal == 0, "127 ticks after reset");
+    expect(!d.machine.watchdog && d.machine.count == 0, "the watchdog is disabled");
+}
+
 int main(void)
 {
     fill();
@@ -198,9 +258,11 @@ int main(void)
             compare();
     }
     expect(z80_ran > 1000 && z80_held > 1000, "the Z80 was seldom held, or seldom not");
+    expect(ran_8088 > 1000 && reset_8088 > 1000, "the 8088 was seldom in reset, or seldom not");
     rows();
     z80();
-    for (int refusal = 0; refusal <= 8; refusal++)
+    watchdog();
+    for (int refusal = 0; refusal <= 9; refusal++)
         printf("%d: %s\n", refusal, rainbow_refusal_text((uint8_t)refusal));
     return 0;
 }

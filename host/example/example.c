@@ -1,5 +1,5 @@
 /* Lays two rows of text on the Rainbow's screen, draws them, changes a letter, prints a scan of the dots, leaves
- * rubbish in a link, and lets the Z80 run. */
+ * rubbish in a link, lets the Z80 run, and leaves the watchdog alone until it resets the 8088. */
 #include "rainbow.h"
 #include <stdio.h>
 
@@ -7,23 +7,27 @@ static uint8_t shared[RAINBOW_SHARED_BYTES], screen[RAINBOW_SCREEN_BYTES], attri
 static uint8_t nvm[RAINBOW_NVM_BYTES], shadow[RAINBOW_SHADOW_BYTES], glyphs[RAINBOW_GLYPH_BYTES];
 static uint8_t picture[RAINBOW_PICTURE_BYTES], line[RAINBOW_LINE_BYTES], private_memory[RAINBOW_PRIVATE_BYTES];
 
-/* The 8088's store at a place of the screen memory, and beside it in the attribute memory. */
-static void store(uint32_t place, uint8_t byte, uint8_t beside)
+static uint8_t store_byte(rainbow_machine machine, uint32_t address, uint8_t byte)
 {
-    uint32_t address = 0xEE000 + place;
-    rainbow_store_8088(shared, sizeof shared, screen, sizeof screen, attribute, sizeof attribute, address, byte);
-    address = 0xEF000 + place;
-    rainbow_store_8088(shared, sizeof shared, screen, sizeof screen, attribute, sizeof attribute, address, beside);
+    return rainbow_store_8088(machine, shared, sizeof shared, screen, sizeof screen, attribute, sizeof attribute,
+                              address, byte);
+}
+
+/* The 8088's store at a place of the screen memory, and beside it in the attribute memory. */
+static void store(rainbow_machine machine, uint32_t place, uint8_t byte, uint8_t beside)
+{
+    store_byte(machine, 0xEE000 + place, byte);
+    store_byte(machine, 0xEF000 + place, beside);
 }
 
 /* A row of plain cells, FF, and the link to the next row, which is of kind 3: normal. */
-static void lay(uint32_t place, const char *text, uint32_t next)
+static void lay(rainbow_machine machine, uint32_t place, const char *text, uint32_t next)
 {
     for (; *text != 0; text++)
-        store(place++, (uint8_t)*text, 0x0E);
-    store(place, 0xFF, 0x0E);
-    store(place + 1, (uint8_t)(next & 0xFF), 3);
-    store(place + 2, (uint8_t)(next >> 8), 0x0E);
+        store(machine, place++, (uint8_t)*text, 0x0E);
+    store(machine, place, 0xFF, 0x0E);
+    store(machine, place + 1, (uint8_t)(next & 0xFF), 3);
+    store(machine, place + 2, (uint8_t)(next >> 8), 0x0E);
 }
 
 static rainbow_drawn draw(rainbow_machine machine)
@@ -45,10 +49,23 @@ static void print_z80(rainbow_machine machine)
 {
     uint8_t refusal =
         rainbow_store_z80(machine, private_memory, sizeof private_memory, shared, sizeof shared, 0x0800, 0x5A);
-    rainbow_byte_read read = rainbow_read_8088(shared, sizeof shared, screen, sizeof screen, attribute,
+    rainbow_byte_read read = rainbow_read_8088(machine, shared, sizeof shared, screen, sizeof screen, attribute,
                                                sizeof attribute, 0x00800);
     printf("the Z80 %s, refusal %d, the 8088 reads %02X\n", rainbow_z80_runs(machine) ? "runs" : "is held", refusal,
            read.byte);
+}
+
+/* A herd book that hangs: the vertical interrupt is acknowledged once, by code 09, and never again. */
+static void print_watchdog(rainbow_machine machine)
+{
+    machine = rainbow_write_port(machine, shadow, sizeof shadow, nvm, sizeof nvm, 0x0C, 0x09).machine;
+    for (int tick = 1; tick <= 256; tick++) {
+        bool before = machine.reset;
+        machine = rainbow_watchdog_tick(machine);
+        if (machine.reset != before)
+            printf("tick %d: reset %s, a store of the 8088 has refusal %d\n", tick, before ? "ends" : "begins",
+                   store_byte(machine, 0x00800, 0x5B));
+    }
 }
 
 static void print_row(size_t row)
@@ -68,9 +85,9 @@ int main(void)
     printf("version %u, %d columns, %s\n", (unsigned)rainbow_version(), (int)rainbow_columns(machine),
            rainbow_blanked(machine) ? "blanked" : "shown");
 
-    lay(0x000, "HERD BOOK", 0x100);
-    lay(0x100, "BERTA   9.6", 0x200);
-    lay(0x200, "", 0x200); /* the other rows are this one again and again */
+    lay(machine, 0x000, "HERD BOOK", 0x100);
+    lay(machine, 0x100, "BERTA   9.6", 0x200);
+    lay(machine, 0x200, "", 0x200); /* the other rows are this one again and again */
     print_drawn(draw(machine));
     for (size_t row = 0; row < 3; row++)
         print_row(row);
@@ -89,12 +106,13 @@ int main(void)
         putchar(line[dot] != 0 ? '#' : '.');
     putchar('\n');
 
-    store(0x10D, 0x92, 0x0E); /* the high byte of the link of row 1, which still leads to 0200 */
+    store(machine, 0x10D, 0x92, 0x0E); /* the high byte of the link of row 1, which still leads to 0200 */
     print_drawn(draw(machine));
     print_row(2);
 
     print_z80(machine);
     machine = rainbow_write_port(machine, shadow, sizeof shadow, nvm, sizeof nvm, 0x0A, 0x83).machine;
     print_z80(machine);
+    print_watchdog(machine);
     return 0;
 }

@@ -31,34 +31,38 @@ static const buffer right[BUFFERS] = {
     {picture, sizeof picture}, {line, sizeof line}};
 
 /* Whether a call with these buffers is refused by 1, if it is lent buffer `other`, and accepted if not; or refused by
- * 7, if it is the Z80's and the Z80 is held. */
-static void call_all(const buffer *b, int other)
+ * 7, if it is the Z80's and the Z80 is held, or by 8, if it is the 8088's and the 8088 is in reset. */
+static void call_all(const buffer *b, int other, bool reset)
 {
     rainbow_machine m = rainbow_power_up();
+    m.reset = reset;
+    uint8_t otherwise = reset ? 8 : 0; /* of a call of the 8088 */
     const buffer *s = b, *z = b + 1, *c = b + 2, *a = b + 3, *g = b + 4, *n = b + 5, *h = b + 6, *p = b + 7, *l = b + 8;
     bool main_three = other == 0 || other == 2 || other == 3;
-    expect(rainbow_read_8088(s->bytes, s->length, c->bytes, c->length, a->bytes, a->length, 5).refusal == main_three,
+    uint8_t wanted = main_three ? 1 : otherwise;
+    expect(rainbow_read_8088(m, s->bytes, s->length, c->bytes, c->length, a->bytes, a->length, 5).refusal == wanted,
            "read_8088");
-    expect(rainbow_store_8088(s->bytes, s->length, c->bytes, c->length, a->bytes, a->length, 5, 1) == main_three,
+    expect(rainbow_store_8088(m, s->bytes, s->length, c->bytes, c->length, a->bytes, a->length, 5, 1) == wanted,
            "store_8088");
     for (uint8_t held = 0; held < 2; held++) {
         rainbow_machine with_z80 = m;
         with_z80.held = held;
-        uint8_t wanted = other < 2 ? 1 : held == 0 ? 7 : 0;
+        wanted = other < 2 ? 1 : held == 0 ? 7 : 0;
         expect(rainbow_read_z80(with_z80, z->bytes, z->length, s->bytes, s->length, 5).refusal == wanted, "read_z80");
         expect(rainbow_store_z80(with_z80, z->bytes, z->length, s->bytes, s->length, 5, 1) == wanted, "store_z80");
     }
-    expect(rainbow_read_shadow(h->bytes, h->length, 5).refusal == (other == 6), "read_shadow");
-    expect(rainbow_write_shadow(h->bytes, h->length, 5, 1) == (other == 6), "write_shadow");
-    expect(rainbow_write_port(m, h->bytes, h->length, n->bytes, n->length, 0x0A, 0x40).refusal ==
-               (other == 5 || other == 6), "write_port");
+    wanted = other == 6 ? 1 : otherwise;
+    expect(rainbow_read_shadow(m, h->bytes, h->length, 5).refusal == wanted, "read_shadow");
+    expect(rainbow_write_shadow(m, h->bytes, h->length, 5, 1) == wanted, "write_shadow");
+    wanted = other == 5 || other == 6 ? 1 : otherwise;
+    expect(rainbow_write_port(m, h->bytes, h->length, n->bytes, n->length, 0x0A, 0x40).refusal == wanted, "write_port");
     bool main_two = other == 2 || other == 3;
     rainbow_drawn drawn = rainbow_draw(m, c->bytes, c->length, a->bytes, a->length, p->bytes, p->length);
     expect(drawn.refusal == (main_two || other == 7), "draw");
     expect(drawn.wild == (drawn.refusal == 0) && drawn.wild_row == 0, "the wild row of draw");
+    wanted = main_three || other == 7 ? 1 : otherwise;
     expect(rainbow_store_with_picture(m, s->bytes, s->length, c->bytes, c->length, a->bytes, a->length, p->bytes,
-                                      p->length, 0xEE000, 1).refusal == (main_three || other == 7),
-           "store_with_picture");
+                                      p->length, 0xEE000, 1).refusal == wanted, "store_with_picture");
     expect(rainbow_glyph_part(g->bytes, g->length, 5).refusal == (other == 4), "glyph_part");
     expect(rainbow_scan_line(m, p->bytes, p->length, g->bytes, g->length, 5, 5, l->bytes, l->length) ==
                (other == 4 || other == 7 || other == 8), "scan_line");
@@ -74,7 +78,8 @@ static void lengths(void)
             buffer lent[BUFFERS];
             memcpy(lent, right, sizeof lent);
             lent[other] = others[way];
-            call_all(lent, other);
+            call_all(lent, other, false);
+            call_all(lent, other, true);
         }
     }
 }
@@ -87,6 +92,21 @@ static rainbow_machine with(size_t field, uint8_t byte)
     return machine;
 }
 
+/* A watchdog that is enabled by a byte, and a reset that is one. */
+static void watchdog(uint8_t byte)
+{
+    rainbow_machine enabled = with(offsetof(rainbow_machine, watchdog), byte);
+    rainbow_machine reset = with(offsetof(rainbow_machine, reset), byte);
+    rainbow_machine after = rainbow_watchdog_tick(enabled);
+    expect(after.count == (byte != 0) && after.watchdog == (byte != 0), "watchdog_tick, enabled by a byte");
+    after = rainbow_watchdog_tick(reset);
+    expect(after.count == (byte != 0) && after.reset == (byte != 0), "watchdog_tick, in reset by a byte");
+    reset.count = 127;
+    after = rainbow_watchdog_tick(reset);
+    expect(after.count == 0 && !after.reset, "watchdog_tick, at the end of reset by a byte");
+    expect(rainbow_read_shadow(reset, shadow, sizeof shadow, 5).refusal == (byte ? 8 : 0), "reset by a byte");
+}
+
 static void bools(void)
 {
     for (int byte = 0; byte < 256; byte++) {
@@ -94,20 +114,23 @@ static void bools(void)
             rainbow_machine after = rainbow_vertical_tick(with(field, (uint8_t)byte));
             uint8_t bytes[sizeof after];
             memcpy(bytes, &after, sizeof after);
-            bool number = field == 3 || field == 8; /* latch and held */
+            bool number = field == offsetof(rainbow_machine, latch) || field == offsetof(rainbow_machine, count) ||
+                          field == offsetof(rainbow_machine, held);
             expect(field == 5 || bytes[field] == (number ? byte : byte != 0), "a field of the machine");
             expect(bytes[5] == 1, "the vertical interrupt");
         }
         expect(rainbow_columns(with(0, (uint8_t)byte)) == (byte ? 132 : 80), "columns");
         expect(rainbow_dots_of_line(with(0, (uint8_t)byte)) == (byte ? 1188 : 800), "dots_of_line");
-        expect(rainbow_z80_runs(with(8, (uint8_t)byte)) == byte % 2, "z80_runs");
+        expect(rainbow_z80_runs(with(offsetof(rainbow_machine, held), (uint8_t)byte)) == byte % 2, "z80_runs");
+        watchdog((uint8_t)byte);
     }
 }
 
 int main(void)
 {
     memcpy(screen + 5, "\xFF\x00\x10", 3); /* the link of row 0 is wild */
-    call_all(right, BUFFERS);
+    call_all(right, BUFFERS, false);
+    call_all(right, BUFFERS, true);
     lengths();
     bools();
     if (wrong == 0)

@@ -15,30 +15,33 @@ static void expect(bool holds, const char *function)
 
 static bool same(rainbow_machine a, rainbow_machine b)
 {
-    return memcmp(&a, &b, sizeof a) == 0; /* nine bytes, with none between them */
+    return memcmp(&a, &b, sizeof a) == 0; /* eleven bytes, with none between them */
 }
 
 int main(void)
 {
     rainbow_machine machine = rainbow_vertical_tick(rainbow_power_up());
-    rainbow_written written = rainbow_write_port(machine, NULL, 0, NULL, 0, 0x0C, 0x08);
-    expect(written.refusal == 1 && same(written.machine, machine), "write_port");
-    rainbow_byte_read read = rainbow_read_8088(NULL, 0, NULL, 0, NULL, 0, 0xEE000);
-    expect(read.refusal == 1 && read.byte == 0, "read_8088");
-    expect(rainbow_store_8088(NULL, 0, NULL, 0, NULL, 0, 0xEE000, 1) == 1, "store_8088");
+    for (int reset = 0; reset < 2; reset++) { /* 1 is ahead of 8 */
+        machine.reset = reset == 1;
+        rainbow_written written = rainbow_write_port(machine, NULL, 0, NULL, 0, 0x0C, 0x08);
+        expect(written.refusal == 1 && same(written.machine, machine), "write_port");
+        rainbow_byte_read read = rainbow_read_8088(machine, NULL, 0, NULL, 0, NULL, 0, 0xEE000);
+        expect(read.refusal == 1 && read.byte == 0, "read_8088");
+        expect(rainbow_store_8088(machine, NULL, 0, NULL, 0, NULL, 0, 0xEE000, 1) == 1, "store_8088");
+        rainbow_stored stored = rainbow_store_with_picture(machine, NULL, 0, NULL, 0, NULL, 0, NULL, 0, 0xEE000, 1);
+        expect(stored.refusal == 1 && stored.marks == 0, "store_with_picture");
+        read = rainbow_read_shadow(machine, NULL, 0, 0);
+        expect(read.refusal == 1 && read.byte == 0, "read_shadow");
+        expect(rainbow_write_shadow(machine, NULL, 0, 0, 1) == 1, "write_shadow");
+    }
     for (uint8_t held = 0; held < 2; held++) { /* 1 is ahead of 7 */
         machine.held = held;
-        read = rainbow_read_z80(machine, NULL, 0, NULL, 0, 0x0800);
+        rainbow_byte_read read = rainbow_read_z80(machine, NULL, 0, NULL, 0, 0x0800);
         expect(read.refusal == 1 && read.byte == 0, "read_z80");
         expect(rainbow_store_z80(machine, NULL, 0, NULL, 0, 0x0800, 1) == 1, "store_z80");
     }
-    read = rainbow_read_shadow(NULL, 0, 0);
-    expect(read.refusal == 1 && read.byte == 0, "read_shadow");
-    expect(rainbow_write_shadow(NULL, 0, 0, 1) == 1, "write_shadow");
     rainbow_drawn drawn = rainbow_draw(machine, NULL, 0, NULL, 0, NULL, 0);
     expect(drawn.refusal == 1 && drawn.reads == 0 && !drawn.wild && drawn.wild_row == 0, "draw");
-    rainbow_stored stored = rainbow_store_with_picture(machine, NULL, 0, NULL, 0, NULL, 0, NULL, 0, 0xEE000, 1);
-    expect(stored.refusal == 1 && stored.marks == 0, "store_with_picture");
     rainbow_part_place part = rainbow_glyph_part(NULL, 0, 0x41);
     expect(part.refusal == 1 && part.at == 0 && part.length == 0, "glyph_part");
     expect(rainbow_scan_line(machine, NULL, 0, NULL, 0, 0, 1, NULL, 0) == 1, "scan_line");

@@ -30,20 +30,21 @@
 //!
 //! | Call | What it does |
 //! |---|---|
-//! | [`machine::Machine::power_up`], [`vertical_tick`](machine::Machine::vertical_tick) | the machine at power-up; a vertical tick |
+//! | [`machine::Machine::power_up`], [`vertical_tick`](machine::Machine::vertical_tick), [`watchdog_tick`](machine::Machine::watchdog_tick) | the machine at power-up; a vertical tick; a tick of the watchdog's clock, which may begin or end a reset of the 8088 |
 //! | [`columns`](machine::Machine::columns), [`scroll_latch`](machine::Machine::scroll_latch), [`z80_runs`](machine::Machine::z80_runs), [`blanked`](machine::Machine::blanked), [`graphics`](machine::Machine::graphics) | what the machine is set to |
-//! | [`ports::write_port`] | writes a code to a port |
+//! | [`ports::write_port`] | writes a code to a port, as the 8088 does |
 //! | [`memories::read_8088`], [`memories::store_8088`] | the 8088 reads; it stores, with no picture |
 //! | [`memories::read_z80`], [`memories::store_z80`] | the Z80 reads and stores, while it runs |
-//! | [`shadow::read_shadow`], [`shadow::write_shadow`] | the NVM's shadow, by place |
+//! | [`shadow::read_shadow`], [`shadow::write_shadow`] | the NVM's shadow, by place, as the 8088 reads and writes it |
 //! | [`picture::draw`] | draws the picture afresh; how many bytes it read, and the first row whose link is wild |
 //! | [`mending::store_with_picture`], [`marks::is_marked`] | the 8088 stores, and the picture is mended; which rows changed |
 //! | [`glyphs::part`], [`glyphs::refusal`] | the sixteen bytes of a code in the glyph table |
 //! | [`scan_line::draw`], [`scan_line::dots_of_line`] | the dots of a scan line |
 //! | [`listing::list_rows`] | the row lister's text, and what the drawing answers |
 //!
-//! Draw the picture afresh after each change of the column setting. [`chain`] and [`records`] have the constants of a
-//! picture; the other functions that are public are parts of these calls, and are as safe to call.
+//! While the 8088 is in reset its calls are refused by 8. Draw the picture afresh after each change of the column
+//! setting. [`chain`] and [`records`] have the constants of a picture; the other functions that are public are parts of
+//! these calls, and are as safe to call.
 #![no_std]
 #![cfg_attr(not(rainbow_c), forbid(unsafe_code))]
 #![cfg_attr(rainbow_c, deny(unsafe_code))]

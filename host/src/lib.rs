@@ -8,6 +8,7 @@ pub mod chain;
 pub mod docs;
 pub mod dots;
 pub mod hard;
+pub mod history;
 pub mod load;
 pub mod machine;
 pub mod memories;
@@ -21,9 +22,10 @@ pub mod sample;
 pub mod scripts;
 pub mod trial;
 pub mod tube_sample;
+pub mod watchdog;
 
 /// "Numbers of refusal", with those of document 02: they are 1 to this.
-pub const REFUSALS: usize = 7;
+pub const REFUSALS: usize = 8;
 
 /// A number of refusal or the accepted value.
 pub type Answer<T> = Result<T, u8>;

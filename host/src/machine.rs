@@ -1,4 +1,5 @@
-//! Document 01, "Ports": the machine and the write ports. Document 02, ticket 2: when the Z80 runs.
+//! Document 01, "Ports": the machine and the write ports. Document 02, ticket 2: when the Z80 runs; what ticket 3 says
+//! of the machine is in `watchdog`.
 use crate::memories::{NVM, SHADOW};
 use crate::Answer;
 
@@ -12,6 +13,10 @@ pub struct Machine {
     pub interrupt: bool,
     pub reverse: bool,
     pub watchdog: bool,
+    /// The watchdog's count of ticks.
+    pub count: u8,
+    /// The 8088 is in reset.
+    pub reset: bool,
     pub held: u8,
 }
 
@@ -26,6 +31,8 @@ impl Machine {
             interrupt: false,
             reverse: false,
             watchdog: false,
+            count: 0,
+            reset: false,
             held: 0,
         }
     }
@@ -53,12 +60,13 @@ impl Machine {
         if shadow.len() != SHADOW || nvm.len() != NVM {
             return Err(1);
         }
+        self.runs_8088()?;
         match port {
             0x04 => self.dc011(code),
             0x0A => self.diagnostic(shadow, nvm, code),
             0x0C | 0x10C => {
                 self.dc012(code)?;
-                self.watchdog = port == 0x0C;
+                self.watch(port == 0x0C, code);
                 Ok(())
             }
             _ => Err(3),
@@ -109,7 +117,7 @@ mod tests {
 
     const PORTS: [u16; 4] = [0x04, 0x0A, 0x0C, 0x10C];
 
-    /// Every field another than at power-up.
+    /// Every field another than at power-up, but for the reset, in which no write is accepted.
     fn other() -> Machine {
         Machine {
             columns: 132,
@@ -120,6 +128,8 @@ mod tests {
             interrupt: true,
             reverse: true,
             watchdog: true,
+            count: 100,
+            reset: false,
             held: 0xC2,
         }
     }
@@ -145,6 +155,8 @@ mod tests {
             interrupt: false,
             reverse: false,
             watchdog: false,
+            count: 0,
+            reset: false,
             held: 0x00,
         };
         assert_eq!(Machine::power_up(), machine);
@@ -282,6 +294,7 @@ mod tests {
             blink: false,
             interrupt: false,
             reverse: false,
+            count: 0,
             ..set
         };
         assert_eq!(written(set, 0x0C, &all), Ok(after));

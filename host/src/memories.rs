@@ -1,5 +1,5 @@
 //! Document 01, "Lent memory": the memories as the two processors see them, and the shadow. Document 02, ticket 2: a
-//! Z80 that is held sees none.
+//! Z80 that is held sees none; ticket 3: nor does an 8088 in reset, which is the one that has the shadow.
 use crate::machine::Machine;
 use crate::Answer;
 
@@ -28,11 +28,12 @@ impl View8088 {
     }
 
     /// The byte at an address, or the number of refusal.
-    fn at(&mut self, address: u32) -> Answer<&mut u8> {
+    fn at(&mut self, machine: &Machine, address: u32) -> Answer<&mut u8> {
         let lengths = (self.shared.len(), self.screen.len(), self.attribute.len());
         if lengths != (SHARED, SCREEN, ATTRIBUTE) {
             return Err(1);
         }
+        machine.runs_8088()?;
         match address {
             0x00000..=0x0FFFF => Ok(&mut self.shared[address as usize]),
             0xEE000..=0xEEFFF => Ok(&mut self.screen[(address & 0xFFF) as usize]),
@@ -41,12 +42,12 @@ impl View8088 {
         }
     }
 
-    pub fn read(&mut self, address: u32) -> Answer<u8> {
-        self.at(address).map(|byte| *byte)
+    pub fn read(&mut self, machine: &Machine, address: u32) -> Answer<u8> {
+        self.at(machine, address).map(|byte| *byte)
     }
 
-    pub fn store(&mut self, address: u32, byte: u8) -> Answer<()> {
-        self.at(address).map(|place| *place = byte)
+    pub fn store(&mut self, machine: &Machine, address: u32, byte: u8) -> Answer<()> {
+        self.at(machine, address).map(|place| *place = byte)
     }
 }
 
@@ -86,17 +87,19 @@ pub fn z80_store(
     z80_at(machine, private, shared, address).map(|place| *place = byte)
 }
 
-pub fn shadow_read(shadow: &[u8], place: usize) -> Answer<u8> {
+pub fn shadow_read(machine: &Machine, shadow: &[u8], place: usize) -> Answer<u8> {
     if shadow.len() != SHADOW {
         return Err(1);
     }
+    machine.runs_8088()?;
     shadow.get(place).map(|byte| byte & 15).ok_or(5)
 }
 
-pub fn shadow_write(shadow: &mut [u8], place: usize, value: u8) -> Answer<()> {
+pub fn shadow_write(machine: &Machine, shadow: &mut [u8], place: usize, value: u8) -> Answer<()> {
     if shadow.len() != SHADOW {
         return Err(1);
     }
+    machine.runs_8088()?;
     shadow
         .get_mut(place)
         .map(|byte| *byte = value & 15)
@@ -124,10 +127,22 @@ mod tests {
         }
     }
 
-    /// A machine whose Z80 runs.
+    /// A machine whose Z80 runs, as its 8088 does.
     fn running() -> Machine {
         holding(0x01)
     }
+
+    /// The same with its 8088 in reset.
+    fn in_reset() -> Machine {
+        Machine {
+            watchdog: true,
+            reset: true,
+            ..running()
+        }
+    }
+
+    /// Addresses at which the 8088 sees no memory.
+    const NOWHERE: [u32; 5] = [0xEDFFF, 0xF0000, 0x10000, 0x1EE000, 0xFFFFFFFF];
 
     /// The places at which two memories differ.
     fn changed(before: &[u8], after: &[u8]) -> Vec<usize> {
@@ -149,10 +164,10 @@ mod tests {
             (0xEF000, 0x31),
             (0xEFFFF, 0x32),
         ] {
-            assert_eq!(view().read(address), Ok(byte), "{address:X}");
+            assert_eq!(view().read(&running(), address), Ok(byte), "{address:X}");
         }
-        for address in [0xEDFFF, 0xF0000, 0x10000, 0x1EE000, 0xFFFFFFFF] {
-            assert_eq!(view().read(address), Err(2), "{address:X}");
+        for address in NOWHERE {
+            assert_eq!(view().read(&running(), address), Err(2), "{address:X}");
         }
     }
 
@@ -165,15 +180,16 @@ mod tests {
             (0xEFFFE, vec![], vec![], vec![4094]),
         ] {
             let (before, mut after) = (view(), view());
-            assert_eq!(after.store(address, 0x77), Ok(()));
-            assert_eq!(after.read(address), Ok(0x77));
+            assert_eq!(after.store(&running(), address, 0x77), Ok(()));
+            assert_eq!(after.read(&running(), address), Ok(0x77));
             assert_eq!(changed(&before.shared, &after.shared), shared);
             assert_eq!(changed(&before.screen, &after.screen), screen);
             assert_eq!(changed(&before.attribute, &after.attribute), attribute);
         }
     }
 
-    /// "1: a lent buffer's length differs from the list". "The lowest number wins."
+    /// "1: a lent buffer's length differs from the list". "The lowest number wins." 02, ticket 3: "8, the 8088 is in
+    /// reset, after 1".
     #[test]
     fn the_8088s_lengths() {
         for (shared, screen, attribute) in [
@@ -183,11 +199,57 @@ mod tests {
         ] {
             for address in [0x00000, 0xEE000, 0xF0000] {
                 let mut view = View8088::new(shared, screen, attribute);
-                assert_eq!(view.read(address), Err(1));
-                assert_eq!(view.store(address, 0x77), Err(1));
+                for machine in [running(), in_reset()] {
+                    assert_eq!(view.read(&machine, address), Err(1));
+                    assert_eq!(view.store(&machine, address, 0x77), Err(1));
+                }
                 assert!(view.shared.iter().all(|byte| *byte == 0));
                 assert!(view.screen.iter().all(|byte| *byte == 0));
             }
+        }
+    }
+
+    /// 02, ticket 3: "During reset, 8088 accesses, those to the shadow too, and port writes are refused. Refusals: 8,
+    /// the 8088 is in reset, after 1, ahead of 2 to 6." Before and after it they are not.
+    #[test]
+    fn an_8088_in_reset_does_not_touch_memory() {
+        let seen = [0x00000, 0x007FF, 0x00800, 0x0FFFF, 0xEE000, 0xEFFFF];
+        let (before, mut after, mut shadow) = (view(), view(), [0xF5; SHADOW]);
+        for address in seen.into_iter().chain(NOWHERE) {
+            assert_eq!(after.read(&in_reset(), address), Err(8), "{address:X}");
+            assert_eq!(after.store(&in_reset(), address, 0x77), Err(8));
+        }
+        for place in [0, 255, 256, usize::MAX] {
+            assert_eq!(shadow_read(&in_reset(), &shadow, place), Err(8));
+            assert_eq!(shadow_write(&in_reset(), &mut shadow, place, 0x7E), Err(8));
+        }
+        assert_eq!(changed(&before.shared, &after.shared), []);
+        assert_eq!(changed(&before.screen, &after.screen), []);
+        assert_eq!(changed(&before.attribute, &after.attribute), []);
+        assert_eq!(shadow, [0xF5; SHADOW]);
+        let over = Machine {
+            reset: false,
+            ..in_reset()
+        };
+        assert_eq!(after.read(&over, 0xEE000), Ok(0x21));
+        assert_eq!(shadow_read(&over, &shadow, 255), Ok(0x05));
+    }
+
+    /// 02, ticket 3, resets the 8088: the Z80 goes on by its own bit.
+    #[test]
+    fn the_z80_goes_on_in_the_8088s_reset() {
+        let (mut private, mut shared) = (vec![0x11; PRIVATE], vec![0x22; SHARED]);
+        let held = Machine {
+            held: 0x02,
+            ..in_reset()
+        };
+        for address in [0x07FF, 0x0800] {
+            let stored = z80_store(&in_reset(), &mut private, &mut shared, address, 0x77);
+            let read = z80_read(&in_reset(), &mut private, &mut shared, address);
+            assert_eq!((stored, read), (Ok(()), Ok(0x77)));
+            let stored = z80_store(&held, &mut private, &mut shared, address, 0x78);
+            let read = z80_read(&held, &mut private, &mut shared, address);
+            assert_eq!((stored, read), (Err(7), Err(7)));
         }
     }
 
@@ -306,27 +368,31 @@ mod tests {
     /// "a read gives the byte modulo 16, a write stores the value modulo 16"
     #[test]
     fn shadow_modulo_16() {
-        let mut shadow = [0xF5; SHADOW];
-        assert_eq!(shadow_read(&shadow, 0), Ok(0x05));
-        assert_eq!(shadow_read(&shadow, 255), Ok(0x05));
-        assert_eq!(shadow_write(&mut shadow, 255, 0xFE), Ok(()));
+        let (machine, mut shadow) = (Machine::power_up(), [0xF5; SHADOW]);
+        assert_eq!(shadow_read(&machine, &shadow, 0), Ok(0x05));
+        assert_eq!(shadow_read(&machine, &shadow, 255), Ok(0x05));
+        assert_eq!(shadow_write(&machine, &mut shadow, 255, 0xFE), Ok(()));
         assert_eq!(shadow[255], 0x0E);
         assert_eq!(shadow[..255], [0xF5; 255]);
     }
 
-    /// "5: a shadow place over 255". "The lowest number wins."
+    /// "5: a shadow place over 255". "The lowest number wins." 02, ticket 3: "8, the 8088 is in reset, after 1, ahead
+    /// of 2 to 6".
     #[test]
     fn shadow_refusals() {
-        for (length, place, number) in [
-            (SHADOW, 256, 5),
-            (SHADOW, usize::MAX, 5),
-            (SHADOW - 1, 0, 1),
-            (SHADOW + 1, 256, 1),
+        for (length, place, number, in_reset_by) in [
+            (SHADOW, 256, 5, 8),
+            (SHADOW, usize::MAX, 5, 8),
+            (SHADOW - 1, 0, 1, 1),
+            (SHADOW + 1, 256, 1, 1),
         ] {
-            let mut shadow = vec![0xA5; length];
-            assert_eq!(shadow_read(&shadow, place), Err(number));
-            assert_eq!(shadow_write(&mut shadow, place, 0x7E), Err(number));
-            assert_eq!(shadow, vec![0xA5; length]);
+            for (machine, number) in [(running(), number), (in_reset(), in_reset_by)] {
+                let mut shadow = vec![0xA5; length];
+                assert_eq!(shadow_read(&machine, &shadow, place), Err(number));
+                let written = shadow_write(&machine, &mut shadow, place, 0x7E);
+                assert_eq!(written, Err(number));
+                assert_eq!(shadow, vec![0xA5; length]);
+            }
         }
     }
 }

@@ -1,5 +1,6 @@
 //! Document 01, "The picture": a store of a byte by the 8088 with a picture lent.
 use crate::chain::{draw, read_by_rows, Places, PICTURE, RECORD};
+use crate::machine::Machine;
 use crate::memories::View8088;
 use crate::Answer;
 
@@ -24,16 +25,17 @@ fn first_reader(view: &View8088, columns: usize, address: u32) -> Answer<Option<
 pub fn store(
     view: &mut View8088,
     picture: &mut [u8],
-    columns: usize,
+    machine: &Machine,
     address: u32,
     byte: u8,
 ) -> Answer<u32> {
     if picture.len() != PICTURE {
         return Err(1);
     }
-    view.read(address)?;
+    let columns = machine.columns.into();
+    view.read(machine, address)?;
     let first = first_reader(view, columns, address)?;
-    view.store(address, byte)?;
+    view.store(machine, address, byte)?;
     let fresh = draw(&view.screen, &view.attribute, columns)?.picture;
     let mut marks = 0;
     for (row, record) in picture.chunks_mut(RECORD).enumerate() {
@@ -80,6 +82,11 @@ mod tests {
         view
     }
 
+    /// A store at power-up, when there are 80 columns.
+    fn stored(view: &mut View8088, picture: &mut [u8], address: u32, byte: u8) -> Answer<u32> {
+        store(view, picture, &Machine::power_up(), address, byte)
+    }
+
     fn fresh(view: &View8088) -> Vec<u8> {
         let drawn = draw(&view.screen, &view.attribute, COLUMNS);
         drawn.ok().unwrap().picture
@@ -100,7 +107,7 @@ mod tests {
     fn p13_link() {
         let mut view = p13();
         let mut picture = fresh(&view);
-        let marks = store(&mut view, &mut picture, COLUMNS, 0xEE002, 0x01);
+        let marks = stored(&mut view, &mut picture, 0xEE002, 0x01);
         assert_eq!(marks, Ok(0xFF_FFFE));
         assert_eq!(record(&picture, 1)[..4], [0x01, 0x00, 3, 255]);
         assert_eq!(picture, fresh(&view));
@@ -111,7 +118,7 @@ mod tests {
     #[test]
     fn records_before_the_first_reader_stay() {
         let (mut view, mut picture) = (three_rows(), untrue());
-        let marks = store(&mut view, &mut picture, COLUMNS, 0xEE101, 0x45);
+        let marks = stored(&mut view, &mut picture, 0xEE101, 0x45);
         assert_eq!(marks, Ok(0xFF_FFFE));
         assert_eq!(picture[..RECORD], untrue()[..RECORD]);
         assert_eq!(picture[RECORD..], fresh(&view)[RECORD..]);
@@ -145,10 +152,10 @@ mod tests {
         ];
         for address in addresses.concat() {
             let (mut view, mut picture) = (three_rows(), untrue());
-            let marks = store(&mut view, &mut picture, COLUMNS, address, 0x77);
+            let marks = stored(&mut view, &mut picture, address, 0x77);
             assert_eq!(marks, Ok(0), "{address:X}");
             assert_eq!(picture, untrue());
-            assert_eq!(view.read(address), Ok(0x77));
+            assert_eq!(view.read(&Machine::power_up(), address), Ok(0x77));
         }
     }
 
@@ -158,9 +165,9 @@ mod tests {
         for (address, byte) in [(0xEE000, 0x41), (0xEE002, 0xFF), (0xEF000, 0xFB)] {
             let mut view = three_rows();
             let mut picture = fresh(&view);
-            let marks = store(&mut view, &mut picture, COLUMNS, address, byte);
+            let marks = stored(&mut view, &mut picture, address, byte);
             assert_eq!(marks, Ok(0), "{address:X}");
-            assert_eq!(view.read(address), Ok(byte));
+            assert_eq!(view.read(&Machine::power_up(), address), Ok(byte));
         }
     }
 
@@ -170,7 +177,7 @@ mod tests {
         let mut view = three_rows();
         let mut picture = fresh(&view);
         for (byte, wild) in [(0x92, Some(1)), (0xF2, Some(1)), (0x02, None)] {
-            let marks = store(&mut view, &mut picture, COLUMNS, 0xEE104, byte);
+            let marks = stored(&mut view, &mut picture, 0xEE104, byte);
             assert_eq!((marks, &picture), (Ok(0), &fresh(&view)));
             let drawn = draw(&view.screen, &view.attribute, COLUMNS);
             assert_eq!(drawn.ok().unwrap().wild, wild);
@@ -184,23 +191,33 @@ mod tests {
         let mut picture = fresh(&view);
         picture[5 * RECORD + 9] ^= 1;
         picture[PICTURE - 1] ^= 1;
-        let marks = store(&mut view, &mut picture, COLUMNS, 0xEE000, 0x46);
+        let marks = stored(&mut view, &mut picture, 0xEE000, 0x46);
         assert_eq!(marks, Ok(1 << 23 | 1 << 5 | 1));
         assert_eq!(picture, fresh(&view));
     }
 
     /// "1: a lent buffer's length differs from the list", "2: the 8088's address lies in none of its three ranges",
-    /// "The lowest number wins." "all buffers and the machine stay"
+    /// "The lowest number wins." "all buffers and the machine stay". 02, ticket 3: "8, the 8088 is in reset, after 1,
+    /// ahead of 2 to 6".
     #[test]
     fn refused_stores_change_nothing() {
-        for (length, address, number) in [
-            (PICTURE - 1, 0xEE000, 1),
-            (PICTURE + 1, 0xF0000, 1),
-            (PICTURE, 0xEDFFF, 2),
-            (PICTURE, 0xF0000, 2),
+        for (length, address, reset, number) in [
+            (PICTURE - 1, 0xEE000, false, 1),
+            (PICTURE + 1, 0xF0000, false, 1),
+            (PICTURE, 0xEDFFF, false, 2),
+            (PICTURE, 0xF0000, false, 2),
+            (PICTURE - 1, 0xEE000, true, 1),
+            (PICTURE + 1, 0xF0000, true, 1),
+            (PICTURE, 0xF0000, true, 8),
+            (PICTURE, 0xEE000, true, 8),
+            (PICTURE, 0x00000, true, 8),
         ] {
             let (mut view, mut picture) = (three_rows(), vec![0x5A; length]);
-            let marks = store(&mut view, &mut picture, COLUMNS, address, 0x77);
+            let machine = Machine {
+                reset,
+                ..Machine::power_up()
+            };
+            let marks = store(&mut view, &mut picture, &machine, address, 0x77);
             assert_eq!(marks, Err(number));
             assert_eq!(picture, vec![0x5A; length]);
             assert_eq!(view.screen, three_rows().screen);

@@ -1,9 +1,10 @@
 -- The statement of specs/Worked.antt, by computation.
 use mathlib.Core.Path.{_≡_, refl}
 use mathlib.Core.List.{List, map, map-append}
-use Rattle.memories.specs.View8088.{within, lengths8088, seen8088}
+use Rattle.memories.specs.View8088.{within, lengths8088, seen8088, refusedAccess}
 use Rattle.memories.specs.ViewZ80.{lengthsZ80, refusalZ80, isPrivate, seenZ80}
-use Rattle.ports.specs.Ports.{lengthsNvm}
+use Rattle.shadow.specs.Shadow.{refusedPlace}
+use Rattle.ports.specs.Ports.{lengthsNvm, refusalPort}
 use Rattle.chain.specs.Chain.{byteAt, capacity, firstFF, terminator, link, rowFrom, next, rowAt}
 use Rattle.chain.specs.Reading.{reads, readsTo, from, screenRead, attributeRead}
 use Rattle.chain.specs.Wild.{wildLink, wild}
@@ -14,6 +15,7 @@ use Rattle.picture.specs.Draw.{lengthsPicture}
 use Rattle.marks.specs.Marks.{bitSet, marksTo}
 use Rattle.readers.specs.Readers.{among, firstFrom}
 use Rattle.mending.specs.Mending.{sameBytes}
+use Rattle.mending.specs.Store.{lengthsWithPicture}
 use Rattle.glyphs.specs.Glyphs.{glyphByte}
 use Rattle.glyphs.specs.Scans.{scanAddresses, scanAddress, glyphScan}
 use Rattle.dots.specs.Attributes.{shade}
@@ -27,10 +29,11 @@ use Rattle.cases.specs.Said.{Said, Case, differ}
 use Rattle.cases.specs.Screens.{alikeFrom, alike, drawnFrom, rowsOf, drawnAll, memory, byteOfRow, startOfRow, countOfRow, named, emptyRows}
 use Rattle.cases.specs.Memories.{zeros, refusedBy, running, storedByZ80, storedShort, readByZ80, storedBy8088}
 use Rattle.cases.specs.Ports.{shadow, nvm, written, writtenAll, none, recalls}
+use Rattle.cases.specs.Watchdog.{ticked, watching, inReset, watch, told, readBy8088, readOfShadow, writtenToShadow, writtenToPort}
 use Rattle.cases.specs.Mends.{markedOf, markedFrom, marked, storedAt, mendedRow}
 use Rattle.cases.specs.Dots.{showing, rowOfKind, litDots, everyByte, ofCharacter, numbered, digits80, digits132, bits, litByBits, underDigits, printed}
 use Rattle.cases.specs.Lister.{listedOf}
-use Rattle.cases.specs.Table.{screens, wildLinks, stores, held, writes, mends, dots, prints, table}
+use Rattle.cases.specs.Table.{screens, wildLinks, stores, held, writes, ticks, resets, mends, dots, prints, table}
 use Rattle.cases.specs.Worked.{Worked}
 
 abbrev gives : List Case → List (List Said)
@@ -48,19 +51,27 @@ unfolding byteAt capacity firstFF terminator link rowFrom next rowAt wildLink wi
 named-out = refl
 
 stored : gives stores ≡ says stores
-unfolding within lengths8088 seen8088 lengthsZ80 refusalZ80 isPrivate differ zeros refusedBy running storedByZ80 storedBy8088 stores
+unfolding within lengths8088 seen8088 refusedAccess lengthsZ80 refusalZ80 isPrivate differ zeros refusedBy running storedByZ80 storedBy8088 stores
 stored = refl
 
 held-out : gives held ≡ says held
-unfolding lengthsNvm lengthsZ80 refusalZ80 isPrivate seenZ80 differ shadow nvm written writtenAll zeros refusedBy running storedByZ80 storedShort readByZ80 held
+unfolding lengthsNvm refusalPort lengthsZ80 refusalZ80 isPrivate seenZ80 differ shadow nvm written writtenAll zeros refusedBy running storedByZ80 storedShort readByZ80 held
 held-out = refl
 
 written-out : gives writes ≡ says writes
-unfolding lengthsNvm differ shadow nvm written writtenAll none recalls writes
+unfolding lengthsNvm refusalPort differ shadow nvm written writtenAll none recalls writes
 written-out = refl
 
+ticked-out : gives ticks ≡ says ticks
+unfolding lengthsNvm refusalPort shadow nvm written writtenAll ticked watching inReset watch ticks
+ticked-out = refl
+
+reset-out : gives resets ≡ says resets
+unfolding within lengths8088 seen8088 refusedAccess lengthsZ80 refusalZ80 isPrivate seenZ80 refusedPlace lengthsNvm refusalPort differ shadow nvm written writtenAll zeros refusedBy running storedByZ80 readByZ80 storedBy8088 ticked watching inReset watch told readBy8088 readOfShadow writtenToShadow writtenToPort resets
+reset-out = refl
+
 mended-out : gives mends ≡ says mends
-unfolding byteAt capacity firstFF terminator link rowFrom next rowAt screenRead attributeRead from cellPairs fillPairs recordOf inOrder recordIn lengthsPicture within lengths8088 seen8088 among firstFrom sameBytes bitSet marksTo drawnFrom rowsOf memory zeros markedOf markedFrom marked storedAt mendedRow mends
+unfolding byteAt capacity firstFF terminator link rowFrom next rowAt screenRead attributeRead from cellPairs fillPairs recordOf inOrder recordIn lengthsPicture within lengths8088 seen8088 refusedAccess lengthsWithPicture among firstFrom sameBytes bitSet marksTo drawnFrom rowsOf memory zeros markedOf markedFrom marked storedAt mendedRow mends
 mended-out = refl
 
 shown-out : gives dots ≡ says dots
@@ -73,4 +84,4 @@ printed-out = refl
 
 pub worked : Worked
 unfolding table
-worked = simp map-append (rw (drawn, named-out, stored, held-out, written-out, mended-out, shown-out, printed-out))
+worked = simp map-append (rw (drawn, named-out, stored, held-out, written-out, ticked-out, reset-out, mended-out, shown-out, printed-out))

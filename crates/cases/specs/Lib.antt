@@ -2,6 +2,7 @@ pub mod Said
 pub mod Screens
 pub mod Memories
 pub mod Ports
+pub mod Watchdog
 pub mod Mends
 pub mod Dots
 pub mod Lister

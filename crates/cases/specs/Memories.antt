@@ -40,9 +40,9 @@ readByZ80 m address =
     let read = readZ80 m (replicate privateBytes 0x5A) (replicate sharedBytes 0x5A) address in
     refusedBy (read .refusal) ++ (Byte (read .byte) ∷ [])
 
-unfoldable pub storedBy8088 : ℕ → List Said
-storedBy8088 address =
-    let left = store8088 (zeros sharedBytes) (zeros screenBytes) (zeros attributeBytes) address 0x5A in
+unfoldable pub storedBy8088 : Machine → ℕ → List Said
+storedBy8088 m address =
+    let left = store8088 m (zeros sharedBytes) (zeros screenBytes) (zeros attributeBytes) address 0x5A in
     refusedBy (left .refusal)
     ++ map Shared (differ 0 (zeros sharedBytes) (left .shared))
     ++ map Screen (differ 0 (zeros screenBytes) (left .screen))

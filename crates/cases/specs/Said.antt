@@ -13,6 +13,7 @@ pub data Said : Type 0 where
   Refused : (number : ℕ) → Said
   Interlaced : Bool → Said
   Recalls : ℕ → Said
+  Watch : (enabled : Bool) → (count : ℕ) → (reset : Bool) → Said
   Row : (row start kind count : ℕ) → Said
   Start : ℕ → Said
   Count : ℕ → Said

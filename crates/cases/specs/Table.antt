@@ -1,17 +1,18 @@
--- Document 01, "Screens and ports worked out": the cases marked P. Document 02: those of tickets 1 and 2.
+-- Document 01, "Screens and ports worked out": the cases marked P. Document 02: those of tickets 1 to 3.
 use Prim.Native.Nat.{_-_}
 use mathlib.Core.List.{List, [], _∷_, _++_}
 use mathlib.Core.Bool.{true, false}
 use lib.ListN.{replicate}
-use Rattle.lent.specs.Lengths.{screenBytes, attributeBytes}
-use Rattle.machine.specs.Fields.{withHeld}
-use Rattle.machine.specs.Power.{powerUp}
+use Rattle.lent.specs.Lengths.{sharedBytes, screenBytes, attributeBytes, shadowBytes}
+use Rattle.machine.specs.Fields.{withHeld, withCount, withReset}
+use Rattle.machine.specs.Power.{powerUp, verticalTick}
 use Rattle.glyphs.specs.Scans.{glyphScan}
 use Rattle.ascii.specs.Ascii.{ascii}
-use Rattle.cases.specs.Said.{Case, Private, Shared, Screen, Attribute, Byte, Refused, Interlaced, Recalls, Row, Start, Count, Reads, Names, Dots, GlyphScan, Prints}
+use Rattle.cases.specs.Said.{Case, Private, Shared, Screen, Attribute, Byte, Refused, Interlaced, Recalls, Watch, Row, Start, Count, Reads, Names, Dots, GlyphScan, Prints}
 use Rattle.cases.specs.Screens.{alike, drawnAll, startOfRow, countOfRow, named, emptyRows}
 use Rattle.cases.specs.Memories.{running, storedByZ80, storedShort, readByZ80, storedBy8088}
 use Rattle.cases.specs.Ports.{writtenAll, recalls}
+use Rattle.cases.specs.Watchdog.{ticked, watching, inReset, watch, readBy8088, readOfShadow, writtenToShadow, writtenToPort}
 use Rattle.cases.specs.Lister.{listedOf}
 use Rattle.cases.specs.Mends.{marked, mendedRow}
 use Rattle.cases.specs.Dots.{litDots, everyByte, numbered, digits80, digits132, litByBits, underDigits, printed}
@@ -77,11 +78,11 @@ stores =
     record { gives = storedByZ80 running 0x07FF; says = Private 2047 ∷ [] }
     ∷ record { gives = storedByZ80 running 0x0800; says = Shared 2048 ∷ [] }
     -- P8: 8088 at EE000, EFFFF; EDFFF, F0000, 10000: screen 0, attribute 4095; refused 2
-    ∷ record { gives = storedBy8088 0xEE000; says = Screen 0 ∷ [] }
-    ∷ record { gives = storedBy8088 0xEFFFF; says = Attribute 4095 ∷ [] }
-    ∷ record { gives = storedBy8088 0xEDFFF; says = Refused 2 ∷ [] }
-    ∷ record { gives = storedBy8088 0xF0000; says = Refused 2 ∷ [] }
-    ∷ record { gives = storedBy8088 0x10000; says = Refused 2 ∷ [] }
+    ∷ record { gives = storedBy8088 powerUp 0xEE000; says = Screen 0 ∷ [] }
+    ∷ record { gives = storedBy8088 powerUp 0xEFFFF; says = Attribute 4095 ∷ [] }
+    ∷ record { gives = storedBy8088 powerUp 0xEDFFF; says = Refused 2 ∷ [] }
+    ∷ record { gives = storedBy8088 powerUp 0xF0000; says = Refused 2 ∷ [] }
+    ∷ record { gives = storedBy8088 powerUp 0x10000; says = Refused 2 ∷ [] }
     ∷ []
 
 -- 02, ticket 2: "So the Z80 runs only while the bit is 1. .. Refusals: 7, the Z80 is held, for both Z80 access calls,
@@ -123,6 +124,73 @@ writes =
     }
     -- P12: 0A holds 00, write 83 twice: one recall
     ∷ record { gives = Recalls (recalls 0x0A powerUp (0x83 ∷ 0x83 ∷ [])) ∷ []; says = Recalls 1 ∷ [] }
+    ∷ []
+
+-- 02, ticket 3: "While enabled, reset begins at the 128th tick after the last code 09, enabling or end of reset. ..
+-- Reset ends at the 128th tick after it began, with the count 0 and the watchdog still enabled"
+unfoldable pub ticks : List Case
+ticks =
+    record { gives = watch (ticked 127 watching); says = Watch true 127 false ∷ [] }
+    ∷ record { gives = watch (ticked 128 watching); says = Watch true 0 true ∷ [] }
+    ∷ record { gives = watch (ticked 255 watching); says = Watch true 127 true ∷ [] }
+    ∷ record { gives = watch (ticked 256 watching); says = Watch true 0 false ∷ [] }
+    ∷ record { gives = watch (ticked 383 watching); says = Watch true 127 false ∷ [] }
+    ∷ record { gives = watch (ticked 384 watching); says = Watch true 0 true ∷ [] }
+    -- "The count goes to 0 at code 09", to 0C and to 10C, which also disables
+    ∷ record { gives = watch (writtenAll 0x0C (ticked 127 watching) (0x09 ∷ [])); says = Watch true 0 false ∷ [] }
+    ∷ record { gives = watch (writtenAll 0x10C (ticked 127 watching) (0x09 ∷ [])); says = Watch false 0 false ∷ [] }
+    ∷ record {
+      gives = watch (ticked 127 (writtenAll 0x0C (ticked 127 watching) (0x09 ∷ [])));
+      says = Watch true 127 false ∷ [];
+    }
+    -- "Other codes to port 0C, while it is enabled, leave the count"; 0C is no code, and 09 to 0A is held
+    ∷ record {
+      gives = watch (writtenAll 0x0C (ticked 127 watching) (0x00 ∷ 0x08 ∷ 0x0A ∷ 0x0B ∷ 0x0C ∷ []));
+      says = Watch true 127 false ∷ [];
+    }
+    ∷ record { gives = watch (writtenAll 0x0A (ticked 127 watching) (0x09 ∷ [])); says = Watch true 127 false ∷ [] }
+    -- it "stays 0 while disabled"; and enabling starts anew
+    ∷ record { gives = watch (ticked 300 powerUp); says = Watch false 0 false ∷ [] }
+    ∷ record { gives = watch (writtenAll 0x10C (ticked 127 watching) (0x00 ∷ [])); says = Watch false 0 false ∷ [] }
+    ∷ record { gives = watch (writtenAll 0x10C (ticked 127 watching) (0x0C ∷ [])); says = Watch true 127 false ∷ [] }
+    ∷ record {
+      gives = watch (ticked 127 (writtenAll 0x0C (ticked 300 powerUp) (0x00 ∷ [])));
+      says = Watch true 127 false ∷ [];
+    }
+    -- a vertical tick is none of them
+    ∷ record { gives = watch (verticalTick (ticked 127 watching)); says = Watch true 127 false ∷ [] }
+    -- machines that no run of calls from power-up makes: a count over 127 is as 127, reset ends though disabled, and a
+    -- count while disabled is 0 at the next tick and at enabling
+    ∷ record { gives = watch (ticked 1 (withCount watching 200)); says = Watch true 0 true ∷ [] }
+    ∷ record { gives = watch (ticked 128 inReset); says = Watch false 0 false ∷ [] }
+    ∷ record { gives = watch (ticked 1 (withCount powerUp 5)); says = Watch false 0 false ∷ [] }
+    ∷ record { gives = watch (writtenAll 0x0C (withCount powerUp 5) (0x00 ∷ [])); says = Watch true 0 false ∷ [] }
+    ∷ []
+
+-- 02, ticket 3: "During reset, 8088 accesses, those to the shadow too, and port writes are refused. Refusals: 8, the
+-- 8088 is in reset, after 1, ahead of 2 to 6."
+unfoldable pub resets : List Case
+resets =
+    record { gives = storedBy8088 inReset 0xEE000; says = Refused 8 ∷ [] }
+    ∷ record { gives = storedBy8088 inReset 0xEDFFF; says = Refused 8 ∷ [] }
+    ∷ record { gives = readBy8088 inReset sharedBytes 0xEE000; says = Refused 8 ∷ Byte 0x00 ∷ [] }
+    ∷ record { gives = readBy8088 inReset sharedBytes 0xEDFFF; says = Refused 8 ∷ Byte 0x00 ∷ [] }
+    ∷ record { gives = readBy8088 inReset (sharedBytes - 1) 0xEDFFF; says = Refused 1 ∷ Byte 0x00 ∷ [] }
+    ∷ record { gives = readBy8088 powerUp sharedBytes 0xEE000; says = Byte 0x5A ∷ [] }
+    ∷ record { gives = readOfShadow inReset shadowBytes 0; says = Refused 8 ∷ Byte 0x00 ∷ [] }
+    ∷ record { gives = readOfShadow inReset shadowBytes 256; says = Refused 8 ∷ Byte 0x00 ∷ [] }
+    ∷ record { gives = readOfShadow inReset (shadowBytes - 1) 256; says = Refused 1 ∷ Byte 0x00 ∷ [] }
+    ∷ record { gives = readOfShadow powerUp shadowBytes 256; says = Refused 5 ∷ Byte 0x00 ∷ [] }
+    ∷ record { gives = writtenToShadow inReset shadowBytes 256; says = Refused 8 ∷ [] }
+    -- a port that is none, a code that is none, both edges, and the 09 that would have come in time
+    ∷ record { gives = writtenToPort inReset 0x05 0x00; says = Refused 8 ∷ [] }
+    ∷ record { gives = writtenToPort inReset 0x04 0x01; says = Refused 8 ∷ [] }
+    ∷ record { gives = writtenToPort inReset 0x0A 0xC0; says = Refused 8 ∷ [] }
+    ∷ record { gives = writtenToPort inReset 0x0C 0x09; says = Refused 8 ∷ [] }
+    ∷ record { gives = watch (writtenAll 0x0C (ticked 200 watching) (0x09 ∷ [])); says = Watch true 72 true ∷ [] }
+    -- the Z80 goes on
+    ∷ record { gives = storedByZ80 (withReset running true) 0x0800; says = Shared 2048 ∷ [] }
+    ∷ record { gives = readByZ80 (withReset running true) 0x0800; says = Byte 0x5A ∷ [] }
     ∷ []
 
 -- P13
@@ -200,4 +268,4 @@ prints =
     ∷ []
 
 unfoldable pub table : List Case
-table = screens ++ wildLinks ++ stores ++ held ++ writes ++ mends ++ dots ++ prints
+table = screens ++ wildLinks ++ stores ++ held ++ writes ++ ticks ++ resets ++ mends ++ dots ++ prints

@@ -1,3 +1,4 @@
 pub mod Lengths
 pub mod Refusals
 pub mod Answer
+pub mod Inner

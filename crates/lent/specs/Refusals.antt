@@ -1,7 +1,8 @@
--- Document 01, "Numbers of refusal": the table's numbers, and 0 for a call that is not refused. Document 02 adds to
--- them.
+-- Document 01, "Numbers of refusal": the table's numbers, 0 for a call that is not refused, and which number wins.
+-- Document 02 adds to them.
 use Prim.Native.Nat.{ℕ}
-use mathlib.Core.Bool.{Bool, not}
+use mathlib.Core.List.{List, [], _∷_}
+use mathlib.Core.Bool.{Bool, false, not, cond}
 use lib.Dec.{eqb}
 
 abbrev pub accepted : ℕ
@@ -38,3 +39,28 @@ edgesRefused = 6
 -- 02, ticket 2: "7, the Z80 is held"
 abbrev pub z80HeldRefused : ℕ
 z80HeldRefused = 7
+
+-- 02, ticket 3: "8, the 8088 is in reset"
+abbrev pub inResetRefused : ℕ
+inResetRefused = 8
+
+-- the numbers in the order in which they win. 01: "The lowest number wins." But 02, ticket 2, has 7 "after 1", and
+-- ticket 3 has 8 "after 1, ahead of 2 to 6". No call can be refused by both 7 and 8
+abbrev pub order : List ℕ
+order = 1 ∷ 7 ∷ 8 ∷ 2 ∷ 3 ∷ 4 ∷ 5 ∷ 6 ∷ []
+
+-- a number by which a call can be refused, with whether it is so
+abbrev pub Reason : Type 0
+Reason = ℕ × Bool
+
+abbrev pub holds : (number : ℕ) → List Reason → Bool
+holds number [] = false
+holds number (reason ∷ reasons) = cond (eqb (reason .0) number) (reason .1) (holds number reasons)
+
+abbrev pub firstThatHolds : (numbers : List ℕ) → List Reason → ℕ
+firstThatHolds [] reasons = accepted
+firstThatHolds (number ∷ numbers) reasons = cond (holds number reasons) number (firstThatHolds numbers reasons)
+
+-- by what a call is refused that can be refused for these reasons, in whatever order they are listed
+abbrev pub refusalOf : List Reason → ℕ
+refusalOf reasons = firstThatHolds order reasons

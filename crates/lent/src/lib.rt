@@ -1,10 +1,12 @@
 // What every call has in common: the lengths of the memories that a caller lends, the numbers of
-// refusal, and the answer of a call that reads a byte. Document 01, "Lent memory" and "Numbers of
-// refusal"; document 02 has the numbers from 7 up.
+// refusal and their order, and the answer of a call that reads a byte. Document 01, "Lent memory" and
+// "Numbers of refusal"; document 02 has the numbers from 7 up.
 ghost use mathlib.Core.Path.{_≡_};
-ghost use mathlib.Core.Bool.{_&&_};
+ghost use mathlib.Core.Bool.{cond, _&&_};
 ghost use lib.Dec.{eqb};
+ghost use Rattle.lent.specs.Refusals.{accepted};
 ghost use Rattle.lent.specs.Answer.{byteRead, readRefused};
+ghost use Rattle.lent.specs.Inner.{winner};
 
 pub const SHARED_BYTES: usize = 65536;
 
@@ -40,6 +42,29 @@ pub const PLACE: u8 = 5;
 pub const EDGES: u8 = 6;
 // The Z80 is held.
 pub const Z80_HELD: u8 = 7;
+// The 8088 is in reset.
+pub const IN_RESET: u8 = 8;
+
+// The number where something holds, else 0.
+pub fn number_if(holds: bool, number: u8) -> u8
+    ensures { λ r. ⌜ r ≡ cond holds number accepted ⌝ }
+{
+    if holds { number } else { ACCEPTED }
+}
+
+// By what a call is refused. A wrong length wins; then `stopped`, 7 or 8, which says that the call's processor is held
+// or in reset; then `own`, the lowest number of 2 to 6 that holds. The last two are 0 where nothing holds.
+pub fn refusal(lengths: bool, stopped: u8, own: u8) -> u8
+    ensures { λ r. ⌜ r ≡ winner lengths stopped own ⌝ }
+{
+    if !lengths {
+        return LENGTH;
+    }
+    if stopped != ACCEPTED {
+        return stopped;
+    }
+    own
+}
 
 // Whether two lengths are those of the list: a is to be x, and b y.
 pub fn two_lengths(a: usize, x: usize, b: usize, y: usize) -> bool

@@ -14,6 +14,8 @@ withColumns132 m new =
       interrupt = m .interrupt;
       reverse = m .reverse;
       watchdog = m .watchdog;
+      count = m .count;
+      reset = m .reset;
       held = m .held;
     }
 
@@ -28,6 +30,8 @@ withHertz50 m new =
       interrupt = m .interrupt;
       reverse = m .reverse;
       watchdog = m .watchdog;
+      count = m .count;
+      reset = m .reset;
       held = m .held;
     }
 
@@ -42,6 +46,8 @@ withInterlace m new =
       interrupt = m .interrupt;
       reverse = m .reverse;
       watchdog = m .watchdog;
+      count = m .count;
+      reset = m .reset;
       held = m .held;
     }
 
@@ -56,6 +62,8 @@ withLatch m new =
       interrupt = m .interrupt;
       reverse = m .reverse;
       watchdog = m .watchdog;
+      count = m .count;
+      reset = m .reset;
       held = m .held;
     }
 
@@ -70,6 +78,8 @@ withBlink m new =
       interrupt = m .interrupt;
       reverse = m .reverse;
       watchdog = m .watchdog;
+      count = m .count;
+      reset = m .reset;
       held = m .held;
     }
 
@@ -84,6 +94,8 @@ withInterrupt m new =
       interrupt = new;
       reverse = m .reverse;
       watchdog = m .watchdog;
+      count = m .count;
+      reset = m .reset;
       held = m .held;
     }
 
@@ -98,6 +110,8 @@ withReverse m new =
       interrupt = m .interrupt;
       reverse = new;
       watchdog = m .watchdog;
+      count = m .count;
+      reset = m .reset;
       held = m .held;
     }
 
@@ -112,6 +126,40 @@ withWatchdog m new =
       interrupt = m .interrupt;
       reverse = m .reverse;
       watchdog = new;
+      count = m .count;
+      reset = m .reset;
+      held = m .held;
+    }
+
+abbrev pub withCount : Machine → ℕ → Machine
+withCount m new =
+    record {
+      columns132 = m .columns132;
+      hertz50 = m .hertz50;
+      interlace = m .interlace;
+      latch = m .latch;
+      blink = m .blink;
+      interrupt = m .interrupt;
+      reverse = m .reverse;
+      watchdog = m .watchdog;
+      count = new;
+      reset = m .reset;
+      held = m .held;
+    }
+
+abbrev pub withReset : Machine → Bool → Machine
+withReset m new =
+    record {
+      columns132 = m .columns132;
+      hertz50 = m .hertz50;
+      interlace = m .interlace;
+      latch = m .latch;
+      blink = m .blink;
+      interrupt = m .interrupt;
+      reverse = m .reverse;
+      watchdog = m .watchdog;
+      count = m .count;
+      reset = new;
       held = m .held;
     }
 
@@ -126,5 +174,7 @@ withHeld m new =
       interrupt = m .interrupt;
       reverse = m .reverse;
       watchdog = m .watchdog;
+      count = m .count;
+      reset = m .reset;
       held = new;
     }

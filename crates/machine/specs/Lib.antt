@@ -1,4 +1,6 @@
 pub mod Fields
 pub mod Power
 pub mod Settings
+pub mod Watchdog
+pub mod Stopped
 pub mod Written

@@ -15,6 +15,8 @@ powerUp =
       interrupt = false;
       reverse = false;
       watchdog = false;
+      count = 0;
+      reset = false;
       held = 0x00;
     }
 

@@ -9,11 +9,12 @@ use lib.ListN.{length}
 use lib.Dec.{leb, eqb}
 use borrow.Author.Tests.{not-false, eqb-true, le-leb, lt-leb, leb-true, lt-ltb, le-ltb}
 use Rattle.lent.specs.Lengths.{sharedBytes, screenBytes, attributeBytes, privateBytes}
-use Rattle.lent.specs.Refusals.{accepted, refuses, lengthRefused, addressRefused, z80HeldRefused}
+use Rattle.lent.specs.Refusals.{accepted, refuses, lengthRefused, addressRefused, z80HeldRefused, inResetRefused}
+use Rattle.lent.proofs.Order.{by-stop-or-1}
 use Rattle.lent.proofs.Tests.{either, both-equal, three-equal}
 use Rattle.machine.specs.Settings.{z80Runs}
 use Rattle.machine.specs.declared.Machine.{Machine}
-use Rattle.memories.specs.View8088.{within, seen8088, lengths8088, isNowhere, refusal8088, Stored8088, storeSeen, store8088}
+use Rattle.memories.specs.View8088.{within, seen8088, lengths8088, isNowhere, refusedAccess, refusal8088, Stored8088, storeSeen, store8088}
 use Rattle.memories.specs.ViewZ80.{lengthsZ80, refusalZ80, sharedFrom, isPrivate}
 use Rattle.memories.specs.declared.view8088.Seen.{Seen}
 use Rattle.memories.specs.declared.view8088.Seen.the-variants.{Shared, Screen, Attribute, Nowhere}
@@ -67,6 +68,52 @@ unfolding lengths8088
 lent8088 {shared} {screen} {attribute} =
     three-equal shared sharedBytes screen screenBytes attribute attributeBytes
 
+-- what is known of an access of the 8088 by the number that it is answered
+module _ (m : Machine) (lengths : Bool) (address : ℕ) {answer : ℕ} (e : answer ≡ refusedAccess m lengths address) where
+  pub accepted8088 : answer ≡ accepted → refusedAccess m lengths address ≡ accepted
+  accepted8088 h = sym e ∙ h
+
+  -- the lengths are right where it is not refused by 1
+  pub right8088 : (answer ≡ lengthRefused → ⊥) → lengths ≡ true
+  unfolding refusedAccess
+  right8088 h = go lengths e
+    where
+      go :
+          (right : Bool)
+          → answer ≡ cond (not right) lengthRefused (cond (m .reset) inResetRefused (cond (isNowhere (seen8088 address)) addressRefused accepted))
+          → right ≡ true
+      go true g = refl
+      go false g = absurd (h g)
+
+-- an access that is not refused is made out of reset, with the right lengths
+module _ (m : Machine) (lengths : Bool) (address : ℕ) (h : refuses (refusedAccess m lengths address) ≡ false) where
+  pub accepted-right : (lengths ≡ true) × (m .reset ≡ false)
+  unfolding refusedAccess
+  accepted-right = go lengths (m .reset) h
+    where
+      go :
+          (right reset : Bool)
+          → refuses (cond (not right) lengthRefused (cond reset inResetRefused (cond (isNowhere (seen8088 address)) addressRefused accepted)))
+          ≡ false
+          → (right ≡ true) × (reset ≡ false)
+      go true true e = absurd (true≢false e)
+      go true false e = (refl, refl)
+      go false reset e = absurd (true≢false e)
+
+-- of the machine it goes by reset
+pub access-by-reset :
+    (m n : Machine) (lengths : Bool) (address : ℕ) → m .reset ≡ n .reset
+    → refusedAccess m lengths address ≡ refusedAccess n lengths address
+unfolding refusedAccess
+access-by-reset m n lengths address e = rw e
+
+-- in reset it is refused: by 8, or by 1
+pub access-in-reset :
+    (m : Machine) (lengths : Bool) (address : ℕ) → m .reset ≡ true
+    → refusedAccess m lengths address ≡ cond lengths inResetRefused lengthRefused
+unfolding refusedAccess
+access-in-reset m lengths address h = rw h (by-stop-or-1 lengths inResetRefused)
+
 -- they are where an access of the Z80 is not refused by 1
 pub lentZ80 :
     (m : Machine) (private shared : ℕ) {answer : ℕ} → answer ≡ refusalZ80 m private shared → (answer ≡ lengthRefused → ⊥)
@@ -97,11 +144,7 @@ pub refusal-held :
     (m : Machine) (private shared : ℕ) → z80Runs m ≡ false
     → refusalZ80 m private shared ≡ cond (lengthsZ80 private shared) z80HeldRefused lengthRefused
 unfolding refusalZ80
-refusal-held m private shared h = rw h (go (lengthsZ80 private shared))
-  where
-    go : (right : Bool) → cond (not right) lengthRefused z80HeldRefused ≡ cond right z80HeldRefused lengthRefused
-    go true = refl
-    go false = refl
+refusal-held m private shared h = rw h (by-stop-or-1 (lengthsZ80 private shared) z80HeldRefused)
 
 pub below0800 : (a : ℕ) → a < sharedFrom → isPrivate a ≡ true
 unfolding isPrivate
@@ -125,20 +168,9 @@ seen-accepted Nowhere shared screen attribute byte = refl
 
 -- the number that a store answers is that of the access
 pub store-refusal :
-    (shared screen attribute : List ℕ) (address byte : ℕ)
-    → store8088 shared screen attribute address byte .refusal ≡ refusal8088 shared screen attribute address
-store-refusal shared screen attribute address byte =
-    let refusal = refusal8088 shared screen attribute address in
+    (m : Machine) (shared screen attribute : List ℕ) (address byte : ℕ)
+    → store8088 m shared screen attribute address byte .refusal ≡ refusal8088 m shared screen attribute address
+store-refusal m shared screen attribute address byte =
+    let refusal = refusal8088 m shared screen attribute address in
     either (λ (left : Stored8088). left .refusal ≡ refusal) (refuses refusal) _ _ (λ _. refl)
     (λ h. seen-accepted (seen8088 address) shared screen attribute byte ∙ sym (is-accepted refusal h))
-
--- an access that is not refused has the right lengths
-pub accepted-lengths :
-    (shared screen attribute : List ℕ) (address : ℕ) → refuses (refusal8088 shared screen attribute address) ≡ false
-    → lengths8088 (length shared) (length screen) (length attribute) ≡ true
-accepted-lengths shared screen attribute address h =
-    go (lengths8088 (length shared) (length screen) (length attribute)) (isNowhere (seen8088 address)) h
-  where
-    go : (right nowhere : Bool) → refuses (cond (not right) lengthRefused (cond nowhere addressRefused accepted)) ≡ false → right ≡ true
-    go true nowhere e = refl
-    go false nowhere e = absurd (true≢false e)

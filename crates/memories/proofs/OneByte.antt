@@ -14,7 +14,7 @@ use Rattle.memories.specs.ViewZ80.{refusalZ80, sharedFrom, isPrivate, St
 use Rattle.memories.specs.declared.view8088.Seen.{Seen}
 use Rattle.memories.specs.declared.view8088.Seen.the-variants.{Shared, Screen, Attribute, Nowhere}
 use Rattle.memories.specs.OneByte.{OnlyAt, ChangesTheOneByte, ChangesOneByte}
-use Rattle.memories.proofs.Laws.{told, over, under, lent8088, lentZ80, is-accepted, accepted-lengths}
+use Rattle.memories.proofs.Laws.{told, over, under, lent8088, lentZ80, is-accepted, accepted-right}
 
 private-below : (a : ℕ) → isPrivate a ≡ true → a < sharedFrom
 unfolding isPrivate
@@ -33,11 +33,11 @@ module _ (l : List ℕ) (i v : ℕ) where
 
 pub changes-the-one-byte : ChangesTheOneByte
 unfolding seen8088
-changes-the-one-byte shared screen attribute address byte accepts =
+changes-the-one-byte m shared screen attribute address byte accepts =
     rw accepts (go (within 0x00000 0x0FFFF address) (within 0xEE000 0xEEFFF address) (within 0xEF000 0xEFFFF address) refl refl refl)
   where
     lengths : (length shared ≡ sharedBytes) × ((length screen ≡ screenBytes) × (length attribute ≡ attributeBytes))
-    lengths = lent8088 (accepted-lengths shared screen attribute address accepts)
+    lengths = lent8088 (accepted-right m _ address accepts .0)
 
     left : (x y z : Bool) → Stored8088
     left x y z =

@@ -1,4 +1,4 @@
--- Document 01, "Lent memory" and "The picture", and document 02, ticket 2: a store changes one byte.
+-- Document 01, "Lent memory" and "The picture", and document 02, tickets 2 and 3: a store changes one byte.
 use Prim.Native.Nat.{ℕ, _-_, _<_}
 use mathlib.Core.Path.{_≡_}
 use mathlib.Core.List.{List}
@@ -20,9 +20,9 @@ OnlyAt here place byte before new =
 -- "A store with no picture .. changes the one byte"
 abbrev pub ChangesTheOneByte : Type 0
 ChangesTheOneByte =
-    (shared screen attribute : List ℕ) (address byte : ℕ)
-    → refuses (refusal8088 shared screen attribute address) ≡ false
-    → let left = store8088 shared screen attribute address byte in
+    (m : Machine) (shared screen attribute : List ℕ) (address byte : ℕ)
+    → refuses (refusal8088 m shared screen attribute address) ≡ false
+    → let left = store8088 m shared screen attribute address byte in
     OnlyAt (within 0x00000 0x0FFFF address) address byte shared (left .shared)
     × (OnlyAt (within 0xEE000 0xEEFFF address) (address - 0xEE000) byte screen (left .screen)
     × OnlyAt (within 0xEF000 0xEFFFF address) (address - 0xEF000) byte attribute (left .attribute))

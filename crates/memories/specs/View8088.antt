@@ -1,13 +1,14 @@
--- Document 01, "Lent memory": what the 8088 sees, reads and stores.
+-- Document 01, "Lent memory", and document 02, ticket 3: what the 8088 sees, reads and stores, and when it is refused.
 use Prim.Native.Nat.{ℕ, _-_}
-use mathlib.Core.List.{List}
+use mathlib.Core.List.{List, [], _∷_}
 use mathlib.Core.Bool.{Bool, true, false, not, cond, _&&_}
 use lib.ListN.{length, getD, set}
 use lib.Dec.{leb, eqb}
 use Rattle.lent.specs.Lengths.{sharedBytes, screenBytes, attributeBytes}
-use Rattle.lent.specs.Refusals.{accepted, refuses, lengthRefused, addressRefused}
+use Rattle.lent.specs.Refusals.{accepted, refuses, lengthRefused, addressRefused, inResetRefused, refusalOf}
 use Rattle.lent.specs.Answer.{byteRead, readRefused}
 use Rattle.lent.specs.declared.ByteRead.{ByteRead}
+use Rattle.machine.specs.declared.Machine.{Machine}
 use Rattle.memories.specs.declared.view8088.Seen.{Seen}
 use Rattle.memories.specs.declared.view8088.Seen.the-variants.{Shared, Screen, Attribute, Nowhere}
 
@@ -33,12 +34,19 @@ isNowhere (Screen place) = false
 isNowhere (Attribute place) = false
 isNowhere Nowhere = true
 
--- by what an access of the 8088 is refused, in the table's order
-abbrev pub refusal8088 : (shared screen attribute : List ℕ) → (address : ℕ) → ℕ
-refusal8088 shared screen attribute address =
-    cond (not (lengths8088 (length shared) (length screen) (length attribute))) lengthRefused
-    (cond (isNowhere (seen8088 address)) addressRefused
-    accepted)
+-- by what an access of the 8088 to an address is refused, where all that it is lent has the right lengths or not. 02,
+-- ticket 3: "During reset, 8088 accesses .. are refused."
+unfoldable pub refusedAccess : Machine → (lengths : Bool) → (address : ℕ) → ℕ
+refusedAccess m lengths address =
+    refusalOf
+    ((lengthRefused, not lengths)
+    ∷ (inResetRefused, m .reset)
+    ∷ (addressRefused, isNowhere (seen8088 address))
+    ∷ [])
+
+abbrev pub refusal8088 : Machine → (shared screen attribute : List ℕ) → (address : ℕ) → ℕ
+refusal8088 m shared screen attribute address =
+    refusedAccess m (lengths8088 (length shared) (length screen) (length attribute)) address
 
 -- the byte that the 8088 sees, 0 where it sees none
 abbrev pub byteSeen : Seen → (shared screen attribute : List ℕ) → ℕ
@@ -47,9 +55,9 @@ byteSeen (Screen place) shared screen attribute = getD screen place 0
 byteSeen (Attribute place) shared screen attribute = getD attribute place 0
 byteSeen Nowhere shared screen attribute = 0
 
-abbrev pub read8088 : (shared screen attribute : List ℕ) → (address : ℕ) → ByteRead
-read8088 shared screen attribute address =
-    let refusal = refusal8088 shared screen attribute address in
+abbrev pub read8088 : Machine → (shared screen attribute : List ℕ) → (address : ℕ) → ByteRead
+read8088 m shared screen attribute address =
+    let refusal = refusal8088 m shared screen attribute address in
     cond (refuses refusal) (readRefused refusal)
     (byteRead (byteSeen (seen8088 address) shared screen attribute))
 
@@ -71,8 +79,8 @@ storeSeen (Attribute place) shared screen attribute byte = stored8088 accepted s
 storeSeen Nowhere shared screen attribute byte = stored8088 accepted shared screen attribute
 
 -- "A refusal returns its number ..; all buffers .. stay."
-abbrev pub store8088 : (shared screen attribute : List ℕ) → (address byte : ℕ) → Stored8088
-store8088 shared screen attribute address byte =
-    let refusal = refusal8088 shared screen attribute address in
+abbrev pub store8088 : Machine → (shared screen attribute : List ℕ) → (address byte : ℕ) → Stored8088
+store8088 m shared screen attribute address byte =
+    let refusal = refusal8088 m shared screen attribute address in
     cond (refuses refusal) (stored8088 refusal shared screen attribute)
     (storeSeen (seen8088 address) shared screen attribute byte)

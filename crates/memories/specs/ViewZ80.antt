@@ -1,11 +1,11 @@
 -- Document 01, "Lent memory", and document 02, ticket 2: what the Z80 sees, reads and stores, and when it is held.
 use Prim.Native.Nat.{ℕ}
-use mathlib.Core.List.{List}
+use mathlib.Core.List.{List, [], _∷_}
 use mathlib.Core.Bool.{Bool, not, cond, _&&_}
 use lib.ListN.{length, getD, set}
 use lib.Dec.{ltb, eqb}
 use Rattle.lent.specs.Lengths.{sharedBytes, privateBytes}
-use Rattle.lent.specs.Refusals.{accepted, refuses, lengthRefused, z80HeldRefused}
+use Rattle.lent.specs.Refusals.{accepted, refuses, lengthRefused, z80HeldRefused, refusalOf}
 use Rattle.lent.specs.Answer.{byteRead, readRefused}
 use Rattle.lent.specs.declared.ByteRead.{ByteRead}
 use Rattle.machine.specs.declared.Machine.{Machine}
@@ -19,9 +19,10 @@ lengthsZ80 private shared = eqb private privateBytes && eqb shared sharedBytes
 -- for both Z80 access calls, after 1." 01: "A Z80 address has sixteen bits, so none is refused."
 unfoldable pub refusalZ80 : Machine → (private shared : ℕ) → ℕ
 refusalZ80 m private shared =
-    cond (not (lengthsZ80 private shared)) lengthRefused
-    (cond (not (z80Runs m)) z80HeldRefused
-    accepted)
+    refusalOf
+    ((lengthRefused, not (lengthsZ80 private shared))
+    ∷ (z80HeldRefused, not (z80Runs m))
+    ∷ [])
 
 -- "The Z80 sees private at 0000 to 07FF and, from 0800 to FFFF, the shared byte of the same address."
 abbrev pub sharedFrom : ℕ

@@ -13,11 +13,7 @@ fn refusal_z80(machine: Machine, private: usize, shared: usize) -> u8
     ensures { λ r. ⌜ r ≡ refusalZ80 machine private shared ⌝ }
 {
     let lengths = lent::two_lengths(private, lent::PRIVATE_BYTES, shared, lent::SHARED_BYTES);
-    let runs = machine.z80_runs();
-    if !lengths {
-        return lent::LENGTH;
-    }
-    if runs { lent::ACCEPTED } else { lent::Z80_HELD }
+    lent::refusal(lengths, machine.stop_of_z80(), lent::ACCEPTED)
 }
 
 // Reads a byte as the Z80 does.

@@ -7,7 +7,7 @@ use lib.Dec.{ltb}
 use borrow.Author.Tests.{lt-ltb, le-ltb, not-true, not-false}
 use Rattle.lent.specs.Refusals.{refuses}
 use Rattle.machine.specs.declared.Machine.{Machine}
-use Rattle.memories.specs.View8088.{seen8088, store8088}
+use Rattle.memories.specs.View8088.{seen8088, storeSeen}
 use Rattle.chain.specs.Chain.{rows}
 use Rattle.picture.specs.Picture.{recordIn}
 use Rattle.picture.specs.Draw.{chainOf}
@@ -27,7 +27,7 @@ module _ (m : Machine) (shared screen attribute picture : List ℕ) (address byt
   left = storeWithPicture m shared screen attribute picture address byte
 
   abbrev test : Bool
-  test = refuses (refusalWithPicture shared screen attribute picture address)
+  test = refuses (refusalWithPicture m shared screen attribute picture address)
 
   -- the marks are those of the pictures before and after, of a refused store too
   marks-of : (b : Bool) → test ≡ b → left .answer .marks ≡ marksOf picture (left .picture)
@@ -40,7 +40,7 @@ module _ (m : Machine) (shared screen attribute picture : List ℕ) (address byt
   stays true h row more ahead = rw (refused-outcome m shared screen attribute picture address byte h)
   stays false h row more ahead =
       let long = accepts m shared screen attribute picture address byte h .0 in
-      let after = store8088 shared screen attribute address byte in
+      let after = storeSeen (seen8088 address) shared screen attribute byte in
       rw (mended-outcome m shared screen attribute picture address byte h)
       (record-stays (chainOf m (after .screen) (after .attribute)) (firstReader (chainOf m screen attribute) (seen8088 address)) picture
       (columns-fit m) long row more ahead)

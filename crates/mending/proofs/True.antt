@@ -155,7 +155,7 @@ module _
   after-store = chainStored before (seen8088 address) byte shared
 
   abbrev refused : Bool
-  refused = refuses (refusalWithPicture shared screen attribute picture address)
+  refused = refuses (refusalWithPicture m shared screen attribute picture address)
 
   -- what an accepted store leaves of a true picture: the memories with the byte stored, and their fresh picture
   abbrev Left : StoredWithPicture → Type 0
@@ -167,10 +167,8 @@ module _
 
   fresh-after : refused ≡ false → Left (storeWithPicture m shared screen attribute picture address byte)
   fresh-after h =
-      let goes-on = accepts m shared screen attribute picture address byte h .1 in
       rw (
         mended-outcome m shared screen attribute picture address byte h,
-        goes-on,
         true-before .fresh,
         mended-true before (seen8088 address) byte shared (columns-fit m),
       )
@@ -211,7 +209,7 @@ module _
   -- where the fresh picture stays, nothing is marked
   none-marked-where :
       (b : Bool) → refused ≡ b
-      → (refuses (refusal8088 shared screen attribute address) ≡ false → pictureOf after-store ≡ pictureOf before)
+      → (refuses (refusal8088 m shared screen attribute address) ≡ false → pictureOf after-store ≡ pictureOf before)
       → storeWithPicture m shared screen attribute picture address byte .answer .marks ≡ 0
   none-marked-where true h same = rw (refused-outcome m shared screen attribute picture address byte h)
   none-marked-where false h same =

@@ -1,13 +1,13 @@
 -- Document 01, "The picture": "A store of a byte by the 8088 with a picture lent".
 use Prim.Native.Nat.{ℕ}
 use mathlib.Core.List.{List}
-use mathlib.Core.Bool.{Bool, not, cond, _&&_}
+use mathlib.Core.Bool.{Bool, cond, _&&_}
 use lib.ListN.{length}
 use lib.Dec.{eqb}
 use Rattle.lent.specs.Lengths.{pictureBytes}
-use Rattle.lent.specs.Refusals.{accepted, refuses, lengthRefused}
+use Rattle.lent.specs.Refusals.{accepted, refuses}
 use Rattle.machine.specs.declared.Machine.{Machine}
-use Rattle.memories.specs.View8088.{lengths8088, seen8088, refusal8088, store8088}
+use Rattle.memories.specs.View8088.{lengths8088, seen8088, refusedAccess, storeSeen}
 use Rattle.picture.specs.Draw.{chainOf}
 use Rattle.readers.specs.Readers.{firstReader}
 use Rattle.mending.specs.Mending.{mended, marksOf}
@@ -29,11 +29,10 @@ abbrev pub storedWithPicture : Stored → (shared screen attribute picture : Lis
 storedWithPicture answer shared screen attribute picture =
     record { answer = answer; shared = shared; screen = screen; attribute = attribute; picture = picture }
 
--- by what the store is refused: by 1 if the picture's length is wrong, else as any access of the 8088 is
-abbrev pub refusalWithPicture : (shared screen attribute picture : List ℕ) → (address : ℕ) → ℕ
-refusalWithPicture shared screen attribute picture address =
-    cond (not (eqb (length picture) pictureBytes)) lengthRefused
-    (refusal8088 shared screen attribute address)
+-- by what the store is refused: as any access of the 8088 is, with four lengths
+abbrev pub refusalWithPicture : Machine → (shared screen attribute picture : List ℕ) → (address : ℕ) → ℕ
+refusalWithPicture m shared screen attribute picture address =
+    refusedAccess m (lengthsWithPicture (length shared) (length screen) (length attribute) (length picture)) address
 
 -- a refusal has no marks, and "all buffers .. stay"
 abbrev pub refuseWithPicture : (refusal : ℕ) → (shared screen attribute picture : List ℕ) → StoredWithPicture
@@ -44,7 +43,7 @@ abbrev pub mendWithPicture :
     Machine → (shared screen attribute picture : List ℕ) → (address byte : ℕ) → StoredWithPicture
 mendWithPicture m shared screen attribute picture address byte =
     let f = firstReader (chainOf m screen attribute) (seen8088 address) in
-    let left = store8088 shared screen attribute address byte in
+    let left = storeSeen (seen8088 address) shared screen attribute byte in
     let new = mended (chainOf m (left .screen) (left .attribute)) f picture in
     storedWithPicture
     (record { refusal = accepted; marks = marksOf picture new })
@@ -53,6 +52,6 @@ mendWithPicture m shared screen attribute picture address byte =
 abbrev pub storeWithPicture :
     Machine → (shared screen attribute picture : List ℕ) → (address byte : ℕ) → StoredWithPicture
 storeWithPicture m shared screen attribute picture address byte =
-    let refusal = refusalWithPicture shared screen attribute picture address in
+    let refusal = refusalWithPicture m shared screen attribute picture address in
     cond (refuses refusal) (refuseWithPicture refusal shared screen attribute picture)
     (mendWithPicture m shared screen attribute picture address byte)

@@ -42,7 +42,7 @@ MarksFresh =
 abbrev pub SameByteMarksNothing : Type 0
 SameByteMarksNothing =
     (m : Machine) (shared screen attribute picture : List ℕ) (address byte : ℕ)
-    → TruePicture m shared screen attribute picture → read8088 shared screen attribute address ≡ byteRead byte
+    → TruePicture m shared screen attribute picture → read8088 m shared screen attribute address ≡ byteRead byte
     → storeWithPicture m shared screen attribute picture address byte .answer .marks ≡ 0
 
 -- a store that changes bits 4 to 7 of an attribute alone marks nothing, beside a cell or anywhere

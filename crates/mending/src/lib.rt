@@ -130,20 +130,16 @@ pub fn store_with_picture(
         ≡ storeWithPicture machine
         (now (shared .entry)) (now (screen .entry)) (now (attribute .entry)) (now (picture .entry)) address byte ⌝ }
 {
-    if !lengths_with_picture(shared.len(), screen.len(), attribute.len(), picture.len()) {
-        return Stored {
-            refusal: lent::LENGTH,
-            marks: 0,
-        };
+    let lengths = lengths_with_picture(shared.len(), screen.len(), attribute.len(), picture.len());
+    let refusal = memories::refusal_8088(machine, lengths, address);
+    if refusal != lent::ACCEPTED {
+        return Stored { refusal, marks: 0 };
     }
     let columns = machine.columns();
     let seen = memories::seen_8088(address);
     // The walk of memory before the store.
     let first = readers::first_reader(columns, screen, attribute, seen);
-    let refusal = memories::store_8088(shared, screen, attribute, address, byte);
-    if refusal != lent::ACCEPTED {
-        return Stored { refusal, marks: 0 };
-    }
+    memories::view8088::store_at(shared, screen, attribute, address, byte);
     let marks = mend(columns, screen, attribute, first, picture);
     Stored {
         refusal: lent::ACCEPTED,

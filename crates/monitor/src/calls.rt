@@ -78,18 +78,24 @@ fn store(
     ));
 }
 
-fn store_blind(command: Command, shared: &mut [u8], screen: &mut [u8], attribute: &mut [u8]) {
+fn store_blind(
+    machine: Machine,
+    command: Command,
+    shared: &mut [u8],
+    screen: &mut [u8],
+    attribute: &mut [u8],
+) {
     let address = address(command.first);
     let byte = byte(command.second);
     say::done(
         b"stored",
-        memories::store_8088(shared, screen, attribute, address, byte),
+        memories::store_8088(machine, shared, screen, attribute, address, byte),
     );
 }
 
-fn read(command: Command, shared: &[u8], screen: &[u8], attribute: &[u8]) {
+fn read(machine: Machine, command: Command, shared: &[u8], screen: &[u8], attribute: &[u8]) {
     let address = address(command.first);
-    say_read(memories::read_8088(shared, screen, attribute, address));
+    say_read(memories::read_8088(machine, shared, screen, attribute, address));
 }
 
 // One of the 8088's calls, on memories that are cut to what is lent of them.
@@ -104,8 +110,8 @@ fn call_8088(
     let form = command.form;
     match form {
         forms::STORE => store(desk, command, shared, screen, attribute, picture),
-        forms::BLIND => store_blind(command, shared, screen, attribute),
-        _ => read(command, shared, screen, attribute),
+        forms::BLIND => store_blind(desk.machine, command, shared, screen, attribute),
+        _ => read(desk.machine, command, shared, screen, attribute),
     }
 }
 
@@ -181,33 +187,45 @@ fn tick(desk: Desk) -> Desk {
     desk::with_machine(desk, ticked)
 }
 
+// So many ticks of the watchdog's clock.
+fn watch(desk: Desk, ticks: usize) -> Desk {
+    let mut watched = desk.machine;
+    for _ in 0..ticks {
+        watched = watched.watchdog_tick();
+    }
+    say::machine(b"watched: ", watched);
+    desk::with_machine(desk, watched)
+}
+
 // Obeys a line that writes to a port or is a tick.
 pub fn to_machine(desk: Desk, command: Command, shadow: &mut [u8], nvm: &mut [u8]) -> Desk {
     let form = command.form;
     match form {
         forms::PORT => port(desk, command, shadow, nvm),
+        forms::WATCH => watch(desk, command.first),
         _ => tick(desk),
     }
 }
 
-fn write_shadow(command: Command, shadow: &mut [u8]) {
+fn write_shadow(machine: Machine, command: Command, shadow: &mut [u8]) {
     let value = byte(command.second);
     say::done(
         b"written",
-        shadow::write_shadow(shadow, command.first, value),
+        shadow::write_shadow(machine, shadow, command.first, value),
     );
 }
 
-fn read_shadow(command: Command, shadow: &[u8]) {
-    say_read(shadow::read_shadow(shadow, command.first));
+fn read_shadow(machine: Machine, command: Command, shadow: &[u8]) {
+    say_read(shadow::read_shadow(machine, shadow, command.first));
 }
 
 // Obeys a line that writes or reads the shadow.
 pub fn to_shadow(desk: Desk, command: Command, shadow: &mut [u8]) {
     let form = command.form;
+    let machine = desk.machine;
     let a = desk::cut(desk, desk::SHADOW, shadow);
     match form {
-        forms::SHADOW_WRITE => write_shadow(command, &mut shadow[0..a]),
-        _ => read_shadow(command, &shadow[0..a]),
+        forms::SHADOW_WRITE => write_shadow(machine, command, &mut shadow[0..a]),
+        _ => read_shadow(machine, command, &shadow[0..a]),
     }
 }

@@ -23,7 +23,9 @@ pub const PORT: usize = Z80_READ + 1;
 
 pub const TICK: usize = PORT + 1;
 
-pub const SHADOW_WRITE: usize = TICK + 1;
+pub const WATCH: usize = TICK + 1;
+
+pub const SHADOW_WRITE: usize = WATCH + 1;
 
 pub const SHADOW_READ: usize = SHADOW_WRITE + 1;
 
@@ -46,7 +48,9 @@ pub const MACHINE: usize = POWER + 1;
 
 pub const LATCH: usize = MACHINE + 1;
 
-pub const ROWS: usize = LATCH + 1;
+pub const COUNT: usize = LATCH + 1;
+
+pub const ROWS: usize = COUNT + 1;
 
 pub const TEXT: usize = ROWS + 1;
 
@@ -75,6 +79,7 @@ const FORM_TEXTS: [u8; FORMS * commands::FORM_BYTES] = *b"store HHHHHHHH HH     
     z80 read HHHH                   \
     port HHHH HH                    \
     tick                            \
+    watch DDDDD                     \
     shadow write DDDDD HH           \
     shadow read DDDDD               \
     draw                            \
@@ -86,6 +91,7 @@ const FORM_TEXTS: [u8; FORMS * commands::FORM_BYTES] = *b"store HHHHHHHH HH     
     power                           \
     machine                         \
     latch HH                        \
+    count DDD D                     \
     rows                            \
     text                            \
     list DDDDD                      \

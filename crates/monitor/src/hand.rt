@@ -127,6 +127,15 @@ fn latch(desk: Desk, byte: u8) -> Desk {
     desk::with_machine(desk, machine)
 }
 
+// A caller may hold any byte in the watchdog's count, and reset beside it.
+fn count(desk: Desk, byte: u8, reset: bool) -> Desk {
+    let mut machine = desk.machine;
+    machine.count = byte;
+    machine.reset = reset;
+    say::machine(b"counted: ", machine);
+    desk::with_machine(desk, machine)
+}
+
 // Obeys the other lines that are no call.
 pub fn obey(
     desk: Desk,
@@ -141,6 +150,7 @@ pub fn obey(
         forms::POWER => return power(),
         forms::MACHINE => say::machine(b"machine: ", desk.machine),
         forms::LATCH => return latch(desk, calls::byte(command.first)),
+        forms::COUNT => return count(desk, calls::byte(command.first), command.second != 0),
         forms::ROWS => rows::list(picture),
         forms::TEXT => rows::show(picture, desk.machine.columns()),
         forms::LIST => rows::list_afresh(desk, command.first, screen, attribute),

@@ -71,7 +71,7 @@ fn turn(
             calls::by_8088(desk, command, shared, screen, attribute, picture)
         }
         forms::Z80_STORE..=forms::Z80_READ => calls::by_z80(desk, command, private, shared),
-        forms::PORT..=forms::TICK => return calls::to_machine(desk, command, shadow, nvm),
+        forms::PORT..=forms::WATCH => return calls::to_machine(desk, command, shadow, nvm),
         forms::SHADOW_WRITE..=forms::SHADOW_READ => calls::to_shadow(desk, command, shadow),
         forms::DRAW..=forms::SCROLL => {
             scans::show(desk, command, screen, attribute, picture, glyphs, line)

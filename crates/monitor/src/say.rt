@@ -70,6 +70,7 @@ pub fn because(refusal: u8) {
         lent::PLACE => line(b": no such row, scan or place"),
         lent::EDGES => line(b": bits 6 and 7 both rise"),
         lent::Z80_HELD => line(b": the Z80 is held in reset"),
+        lent::IN_RESET => line(b": the 8088 is in reset"),
         _ => line(b": a refusal that the monitor does not know"),
     }
 }
@@ -96,7 +97,12 @@ fn flip_flops(machine: Machine) {
     flag(b", blink", machine.blink);
     flag(b", interrupt", machine.interrupt);
     flag(b", reverse", machine.reverse);
+}
+
+fn watchdog(machine: Machine) {
     flag(b", watchdog", machine.watchdog);
+    number(b", count ", machine.count as usize);
+    flag(b", reset", machine.reset);
 }
 
 fn port_0a(machine: Machine) {
@@ -117,6 +123,7 @@ pub fn machine(words: &[u8], machine: Machine) {
     flag(b", interlace", machine.interlace);
     byte(b", latch ", machine.latch);
     flip_flops(machine);
+    watchdog(machine);
     port_0a(machine);
     text(b"\n");
 }

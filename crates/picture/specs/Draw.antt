@@ -1,11 +1,11 @@
 -- Document 01, "The picture" and "The chain of lines", and document 02, ticket 1: the drawing call.
 use Prim.Native.Nat.{ℕ}
-use mathlib.Core.List.{List}
+use mathlib.Core.List.{List, [], _∷_}
 use mathlib.Core.Bool.{Bool, false, not, cond, _&&_}
 use lib.ListN.{length}
 use lib.Dec.{eqb}
 use Rattle.lent.specs.Lengths.{screenBytes, attributeBytes, pictureBytes}
-use Rattle.lent.specs.Refusals.{accepted, refuses, lengthRefused}
+use Rattle.lent.specs.Refusals.{accepted, refuses, lengthRefused, refusalOf}
 use Rattle.machine.specs.Settings.{columns}
 use Rattle.machine.specs.declared.Machine.{Machine}
 use Rattle.chain.specs.Chain.{Chain, chain}
@@ -31,8 +31,7 @@ drawn answer picture = record { answer = answer; picture = picture }
 -- by what a drawing is refused
 abbrev pub refusalDrawing : (screen attribute picture : List ℕ) → ℕ
 refusalDrawing screen attribute picture =
-    cond (not (lengthsPicture (length screen) (length attribute) (length picture))) lengthRefused
-    accepted
+    refusalOf ((lengthRefused, not (lengthsPicture (length screen) (length attribute) (length picture))) ∷ [])
 
 -- "A refusal returns its number, with .. read count and all other numbers 0, no row named"
 abbrev pub refusedAnswer : (refusal : ℕ) → Drawn

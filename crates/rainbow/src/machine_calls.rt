@@ -1,7 +1,8 @@
-// The machine: power-up, the vertical tick, its settings and the write ports.
+// The machine: power-up, the two ticks, its settings and the write ports.
 ghost use mathlib.Core.Path.{_≡_};
 ghost use Rattle.machine.specs.Power.{powerUp, verticalTick};
 ghost use Rattle.machine.specs.Settings.{columns, scrollLatch, z80Runs, blanked, graphics};
+ghost use Rattle.machine.specs.Watchdog.{watchdogTick};
 ghost use Rattle.diagnostic.specs.Diagnostic.{writtenPort};
 ghost use Rattle.ports.specs.Ports.{writePort};
 ghost use Rattle.rainbow.specs.Version.{version};
@@ -9,7 +10,7 @@ use machine::Machine;
 use machine::Written;
 
 // RAINBOW_VERSION of the header.
-const VERSION: u32 = 4;
+const VERSION: u32 = 5;
 
 // The version of the header that this archive was made for.
 #[no_mangle]
@@ -33,6 +34,14 @@ pub extern "C" fn rainbow_vertical_tick(machine: Machine) -> Machine
     ensures { λ r. ⌜ r ≡ verticalTick machine ⌝ }
 {
     machine.vertical_tick()
+}
+
+// The machine after a tick of the watchdog's clock.
+#[no_mangle]
+pub extern "C" fn rainbow_watchdog_tick(machine: Machine) -> Machine
+    ensures { λ r. ⌜ r ≡ watchdogTick machine ⌝ }
+{
+    machine.watchdog_tick()
 }
 
 // How many columns the screen is set to: 80 or 132.

@@ -9,20 +9,22 @@ use machine::Machine;
 // Reads a byte as the 8088 does.
 #[no_mangle]
 pub extern "C" fn rainbow_read_8088(
+    machine: Machine,
     shared: &[u8],
     screen: &[u8],
     attribute: &[u8],
     address: u32,
 ) -> ByteRead
     ensures { λ r. ⌜ r
-        ≡ read8088 (now (shared .entry)) (now (screen .entry)) (now (attribute .entry)) address ⌝ }
+        ≡ read8088 machine (now (shared .entry)) (now (screen .entry)) (now (attribute .entry)) address ⌝ }
 {
-    memories::read_8088(shared, screen, attribute, address)
+    memories::read_8088(machine, shared, screen, attribute, address)
 }
 
 // Stores a byte as the 8088 does, with no picture lent.
 #[no_mangle]
 pub extern "C" fn rainbow_store_8088(
+    machine: Machine,
     shared: &mut [u8],
     screen: &mut [u8],
     attribute: &mut [u8],
@@ -30,9 +32,9 @@ pub extern "C" fn rainbow_store_8088(
     byte: u8,
 ) -> u8
     ensures { λ r. ⌜ stored8088 r (now (shared .exit)) (now (screen .exit)) (now (attribute .exit))
-        ≡ store8088 (now (shared .entry)) (now (screen .entry)) (now (attribute .entry)) address byte ⌝ }
+        ≡ store8088 machine (now (shared .entry)) (now (screen .entry)) (now (attribute .entry)) address byte ⌝ }
 {
-    memories::store_8088(shared, screen, attribute, address, byte)
+    memories::store_8088(machine, shared, screen, attribute, address, byte)
 }
 
 // Reads a byte as the Z80 does.
@@ -65,16 +67,22 @@ pub extern "C" fn rainbow_store_z80(
 
 // Reads the low four bits at a place of the shadow.
 #[no_mangle]
-pub extern "C" fn rainbow_read_shadow(shadow: &[u8], place: usize) -> ByteRead
-    ensures { λ r. ⌜ r ≡ readShadow (now (shadow .entry)) place ⌝ }
+pub extern "C" fn rainbow_read_shadow(machine: Machine, shadow: &[u8], place: usize) -> ByteRead
+    ensures { λ r. ⌜ r ≡ readShadow machine (now (shadow .entry)) place ⌝ }
 {
-    shadow::read_shadow(shadow, place)
+    shadow::read_shadow(machine, shadow, place)
 }
 
 // Writes four bits at a place of the shadow.
 #[no_mangle]
-pub extern "C" fn rainbow_write_shadow(shadow: &mut [u8], place: usize, value: u8) -> u8
-    ensures { λ r. ⌜ writtenShadow r (now (shadow .exit)) ≡ writeShadow (now (shadow .entry)) place value ⌝ }
+pub extern "C" fn rainbow_write_shadow(
+    machine: Machine,
+    shadow: &mut [u8],
+    place: usize,
+    value: u8,
+) -> u8
+    ensures { λ r. ⌜ writtenShadow r (now (shadow .exit))
+        ≡ writeShadow machine (now (shadow .entry)) place value ⌝ }
 {
-    shadow::write_shadow(shadow, place, value)
+    shadow::write_shadow(machine, shadow, place, value)
 }

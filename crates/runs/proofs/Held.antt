@@ -4,69 +4,22 @@ use mathlib.Core.Path.{_≡_, refl, sym, ap, _∙_}
 use mathlib.Core.List.{List, [], _∷_}
 use mathlib.Core.Bool.{Bool, true, false, not, cond, _&&_, _||_, true≢false, false≢true, and-eq-true-iff}
 use lib.ListN.{length}
-use lib.Dec.{eqb}
-use borrow.Author.Tests.{eqb-true}
-use Rattle.lent.specs.Refusals.{refuses, lengthRefused, z80HeldRefused}
-use Rattle.lent.specs.declared.ByteRead.{ByteRead}
+use borrow.Author.Tests.{not-true}
+use Rattle.lent.specs.Refusals.{refuses}
 use Rattle.machine.specs.Settings.{z80Runs}
 use Rattle.memories.specs.View8088.{seen8088}
-use Rattle.memories.specs.ViewZ80.{lengthsZ80, refusalZ80}
-use Rattle.memories.proofs.Laws.{refusal-held}
-use Rattle.runs.specs.World.{Memory, Shared, Private, World, Call, Read8088, Store8088, ReadZ80, StoreZ80, ReadShadow, WriteShadow, WritePort, VerticalTick, Draw, StoreWithPicture, GlyphPart, DrawLine, after, answer}
-use Rattle.runs.specs.Reach.{AllOf, has, hasMemory, mayChange}
+use Rattle.memories.proofs.Laws.{accepted-right, store-refusal}
+use Rattle.mending.specs.Store.{StoredWithPicture, refusalWithPicture}
+use Rattle.runs.specs.World.{Memory, Shared, Private, Screen, Attribute, Picture, World, Call, Read8088, Store8088, ReadZ80, StoreZ80, ReadShadow, WriteShadow, WritePort, VerticalTick, WatchdogTick, Draw, StoreWithPicture, GlyphPart, DrawLine, after, answer}
+use Rattle.runs.specs.Reach.{TheMachine, InReset, AllOf, has, hasMemory, Same, mayChange}
 use Rattle.runs.specs.Z80.{onlyParts, onlyMemories, isZ80, CodeHas, SameLengths}
 use Rattle.runs.specs.Kept.{Lent, Own, Another, lentBytes, keptBytes, lending, Step, Made, Lending, stepped}
-use Rattle.runs.specs.Held.{callOf, answerOf, steppedAll, heldAt, heldAtItsCalls, refusalsZ80, allSevenOrOne, withoutZ80, isStore8088, stores8088, HeldTouchesNothing, NoneLetsItRun, HeldUntilLetRun}
-use Rattle.runs.proofs.Refused.{changes-nothing}
+use Rattle.runs.specs.Stopped.{TheZ80, is8088, isStopped, callOf, answerOf, steppedAll, stoppedAtItsCalls}
+use Rattle.runs.specs.Held.{storesShared, acceptedStores, outOfReset, HeldTouchesNothing, NoneLetsItRun, HeldUntilLetRun}
 use Rattle.runs.proofs.Reach.{stored-apart, changes-only, lengths-stay}
-use Rattle.runs.proofs.Sees.{told, z80-told}
-use Rattle.runs.proofs.Z80.{of-z80, keeps-the-bit, stores-by-length, pictures-alike}
-use Rattle.runs.proofs.Kept.{lending-stays}
-
--- the number that a call of the Z80 answers is that of its refusal
-z80-answers :
-    (call : Call) (w : World) → isZ80 call ≡ true
-    → answer call w .refusal ≡ refusalZ80 (w .machine) (length (w .bytes Private)) (length (w .bytes Shared))
-z80-answers call w is =
-    let refusal = refusalZ80 (w .machine) (length (w .bytes Private)) (length (w .bytes Shared)) in
-    of-z80 (λ (one : Call). answer one w .refusal ≡ refusal) (λ a. told (λ (read : ByteRead). read .refusal) refusal _ _ refl refl)
-    (λ a b. z80-told (w .machine) a b (w .bytes Private) (w .bytes Shared)) call is
-
-abbrev sevenOrOne : ℕ → Bool
-sevenOrOne number = eqb number z80HeldRefused || eqb number lengthRefused
-
-held-answers : (call : Call) (w : World) → isZ80 call ≡ true → z80Runs (w .machine) ≡ false → sevenOrOne (answer call w .refusal) ≡ true
-held-answers call w is held =
-    let private = length (w .bytes Private) in
-    let shared = length (w .bytes Shared) in
-    rw (z80-answers call w is ∙ refusal-held (w .machine) private shared held) (go (lengthsZ80 private shared))
-  where
-    go : (right : Bool) → sevenOrOne (cond right z80HeldRefused lengthRefused) ≡ true
-    go true = refl
-    go false = refl
-
-is-refused : (number : ℕ) → sevenOrOne number ≡ true → refuses number ≡ true
-is-refused number h = go (eqb number z80HeldRefused) refl h
-  where
-    go : (seven : Bool) → eqb number z80HeldRefused ≡ seven → seven || eqb number lengthRefused ≡ true → refuses number ≡ true
-    go true e h = rw (eqb-true number z80HeldRefused e)
-    go false e h = rw (eqb-true number lengthRefused h)
-
--- a step of the Z80 while it is held
-module _ (step : Step) (w : World) (is : isZ80 (callOf step) ≡ true) (held : z80Runs (w .machine) ≡ false) where
-  step-answers : sevenOrOne (answerOf step w .refusal) ≡ true
-  step-answers = go step is
-    where
-      go : (one : Step) → isZ80 (callOf one) ≡ true → sevenOrOne (answerOf one w .refusal) ≡ true
-      go (Made call) z = held-answers call w z held
-      go (Lending lent call) z = held-answers call (lending lent w) z held
-
-  step-stays : stepped step w ≡ w
-  step-stays = go step (is-refused (answerOf step w .refusal) step-answers)
-    where
-      go : (one : Step) → refuses (answerOf one w .refusal) ≡ true → stepped one w ≡ w
-      go (Made call) r = changes-nothing call w (λ e. false≢true (sym (ap refuses e) ∙ r)) .0
-      go (Lending lent call) r = lending-stays lent call w r
+use Rattle.runs.proofs.Sees.{told}
+use Rattle.runs.proofs.Z80.{keeps-the-bit, stores-by-length, pictures-alike}
+use Rattle.runs.proofs.Stopped.{step-refused, step-stays, first-and-later, stopped-touches-nothing}
 
 -- a step leaves the lengths, and each memory that its call may not change
 step-lengths : (step : Step) (w : World) (memory : Memory) → length (stepped step w .bytes memory) ≡ length (w .bytes memory)
@@ -78,7 +31,7 @@ step-lengths (Lending lent call) w memory =
     go Own own new e = e
     go (Another bytes) own new e = refl
 
-step-leaves :
+pub step-leaves :
     (step : Step) (w : World) (memory : Memory) → mayChange (callOf step) (AllOf memory) ≡ false
     → stepped step w .bytes memory ≡ w .bytes memory
 step-leaves (Made call) w memory h = changes-only call w (AllOf memory) h
@@ -89,13 +42,13 @@ step-leaves (Lending lent call) w memory h =
     go Own own new e = e
     go (Another bytes) own new e = refl
 
--- a call of another than the Z80 leaves its memory, and shared memory too if it is no store of the 8088
-aside :
+-- a call of another than the Z80 leaves its memory, and shared memory too if it is no store of the 8088 there
+pub aside :
     (call : Call) → isZ80 call ≡ false
-    → (mayChange call (AllOf Private) ≡ false) × (isStore8088 call ≡ false → mayChange call (AllOf Shared) ≡ false)
+    → (mayChange call (AllOf Private) ≡ false) × (storesShared call ≡ false → mayChange call (AllOf Shared) ≡ false)
 unfolding onlyParts onlyMemories has hasMemory
-aside (Store8088 a b) other = (stored-apart (seen8088 a) (AllOf Private) refl, λ h. absurd (true≢false h))
-aside (StoreWithPicture a b) other = (stored-apart (seen8088 a) (AllOf Private) refl, λ h. absurd (true≢false h))
+aside (Store8088 a b) other = (stored-apart (seen8088 a) (AllOf Private) refl, λ h. h)
+aside (StoreWithPicture a b) other = (stored-apart (seen8088 a) (AllOf Private) refl, λ h. h)
 aside (ReadZ80 a) other = absurd (true≢false other)
 aside (StoreZ80 a b) other = absurd (true≢false other)
 aside (Read8088 a) other = (refl, λ _. refl)
@@ -103,35 +56,53 @@ aside (ReadShadow p) other = (refl, λ _. refl)
 aside (WriteShadow p b) other = (refl, λ _. refl)
 aside (WritePort p k) other = (refl, λ _. refl)
 aside VerticalTick other = (refl, λ _. refl)
+aside WatchdogTick other = (refl, λ _. refl)
 aside Draw other = (refl, λ _. refl)
 aside (GlyphPart k) other = (refl, λ _. refl)
 aside (DrawLine r s) other = (refl, λ _. refl)
 
--- what a store of the 8088 makes of shared memory goes by the lengths and by shared memory
-store-alike :
-    (call : Call) → isStore8088 call ≡ true → (w v : World) → SameLengths w v → w .bytes Shared ≡ v .bytes Shared
-    → after call w .bytes Shared ≡ after call v .bytes Shared
-store-alike (Store8088 a b) is w v lengths same = stores-by-length a b w v lengths (AllOf Shared) same
-store-alike (StoreWithPicture a b) is w v lengths same = pictures-alike a b w v lengths (AllOf Shared) same same
-store-alike (Read8088 a) is w v lengths same = same
-store-alike (ReadZ80 a) is w v lengths same = same
-store-alike (StoreZ80 a b) is w v lengths same = absurd (false≢true is)
-store-alike (ReadShadow p) is w v lengths same = same
-store-alike (WriteShadow p b) is w v lengths same = same
-store-alike (WritePort p k) is w v lengths same = same
-store-alike VerticalTick is w v lengths same = same
-store-alike Draw is w v lengths same = same
-store-alike (GlyphPart k) is w v lengths same = same
-store-alike (DrawLine r s) is w v lengths same = same
+abbrev with-picture : (a : ℕ) → World → ℕ
+with-picture a w = refusalWithPicture (w .machine) (w .bytes Shared) (w .bytes Screen) (w .bytes Attribute) (w .bytes Picture) a
+
+-- an accepted store of the 8088 is made out of reset; what it makes of shared memory goes by the lengths and by shared
+-- memory; and it leaves the machine
+module _ (w v : World) (out : v .machine .reset ≡ false) (lengths : SameLengths w v) (same : w .bytes Shared ≡ v .bytes Shared) where
+  abbrev Alike : Call → Type 0
+  Alike call = (after call w .bytes Shared ≡ after call v .bytes Shared) × (after call v .machine .reset ≡ false)
+
+  store-alike : (call : Call) → storesShared call ≡ true → refuses (answer call w .refusal) ≡ false → Alike call
+  unfolding has
+  store-alike (Store8088 a b) is accepts =
+      let refusal = store-refusal (w .machine) (w .bytes Shared) (w .bytes Screen) (w .bytes Attribute) a b in
+      let reset = accepted-right (w .machine) _ a (sym (ap refuses refusal) ∙ accepts) .1 in
+      (stores-by-length a b w v (reset ∙ sym out) lengths (AllOf Shared) same, out)
+  store-alike (StoreWithPicture a b) is accepts =
+      let refusal = told (λ (left : StoredWithPicture). left .answer .refusal) (with-picture a w) _ _ refl refl in
+      let reset = accepted-right (w .machine) _ a (sym (ap refuses refusal) ∙ accepts) .1 in
+      (pictures-alike a b w v (reset ∙ sym out) lengths (AllOf Shared) same same, out)
+  store-alike (Read8088 a) is accepts = absurd (false≢true is)
+  store-alike (ReadZ80 a) is accepts = absurd (false≢true is)
+  store-alike (StoreZ80 a b) is accepts = absurd (false≢true is)
+  store-alike (ReadShadow p) is accepts = absurd (false≢true is)
+  store-alike (WriteShadow p b) is accepts = absurd (false≢true is)
+  store-alike (WritePort p k) is accepts = absurd (false≢true is)
+  store-alike VerticalTick is accepts = absurd (false≢true is)
+  store-alike WatchdogTick is accepts = absurd (false≢true is)
+  store-alike Draw is accepts = absurd (false≢true is)
+  store-alike (GlyphPart k) is accepts = absurd (false≢true is)
+  store-alike (DrawLine r s) is accepts = absurd (false≢true is)
 
 step-alike :
-    (step : Step) → isStore8088 (callOf step) ≡ true → (w v : World) → SameLengths w v → w .bytes Shared ≡ v .bytes Shared
-    → stepped step w .bytes Shared ≡ stepped step v .bytes Shared
-step-alike (Made call) is w v lengths same = store-alike call is w v lengths same
-step-alike (Lending lent call) is w v lengths same =
-    kept (lent Shared) same
-    (store-alike call is (lending lent w) (lending lent v)
-    (λ memory. as-long (lent memory) (w .bytes memory) (v .bytes memory) (lengths memory)) (ap (lentBytes (lent Shared)) same))
+    (step : Step) (w v : World) → v .machine .reset ≡ false → SameLengths w v → w .bytes Shared ≡ v .bytes Shared
+    → storesShared (callOf step) ≡ true → refuses (answerOf step w .refusal) ≡ false
+    → (stepped step w .bytes Shared ≡ stepped step v .bytes Shared) × (stepped step v .machine .reset ≡ false)
+step-alike (Made call) w v out lengths same is accepts = store-alike w v out lengths same call is accepts
+step-alike (Lending lent call) w v out lengths same is accepts =
+    let alike =
+    store-alike (lending lent w) (lending lent v) out
+    (λ memory. as-long (lent memory) (w .bytes memory) (v .bytes memory) (lengths memory)) (ap (lentBytes (lent Shared)) same) call is
+    accepts in
+    (kept (lent Shared) same (alike .0), alike .1)
   where
     as-long : (one : Lent) (own other : List ℕ) → length own ≡ length other → length (lentBytes one own) ≡ length (lentBytes one other)
     as-long Own own other e = e
@@ -143,91 +114,69 @@ step-alike (Lending lent call) is w v lengths same =
     kept Own e f = f
     kept (Another bytes) e f = e
 
--- what is asked of a run is asked of its first step, and of the later ones
-first-and-later :
-    (step : Step) (steps : List Step) (w : World) → heldAtItsCalls (step ∷ steps) w ≡ true
-    → (isZ80 (callOf step) ≡ true → z80Runs (w .machine) ≡ false) × (heldAtItsCalls steps (stepped step w) ≡ true)
-first-and-later step steps w h =
-    let both = and-eq-true-iff (heldAt step w) (heldAtItsCalls steps (stepped step w)) .0 h in
-    (λ is. go (isZ80 (callOf step)) (z80Runs (w .machine)) is (both .0), both .1)
-  where
-    go : (z runs : Bool) → z ≡ true → not z || not runs ≡ true → runs ≡ false
-    go true true e f = absurd (false≢true f)
-    go true false e f = refl
-    go false runs e f = absurd (false≢true e)
+abbrev held : List Step → World → Type 0
+held steps w = stoppedAtItsCalls TheZ80 steps w ≡ true
 
-as-without : (steps : List Step) (w : World) → heldAtItsCalls steps w ≡ true → steppedAll steps w ≡ steppedAll (withoutZ80 steps) w
-as-without [] w h = refl
-as-without (step ∷ steps) w h =
-    let asked = first-and-later step steps w h in
-    go (asked .0) (as-without steps (stepped step w) (asked .1)) (isZ80 (callOf step)) refl
-  where
-    go :
-        (isZ80 (callOf step) ≡ true → z80Runs (w .machine) ≡ false)
-        → steppedAll steps (stepped step w) ≡ steppedAll (withoutZ80 steps) (stepped step w)
-        → (z : Bool) → isZ80 (callOf step) ≡ z
-        → steppedAll steps (stepped step w) ≡ steppedAll (cond z (withoutZ80 steps) (step ∷ withoutZ80 steps)) w
-    go held later true is = later ∙ ap (steppedAll (withoutZ80 steps)) (step-stays step w is (held is))
-    go held later false is = later
-
-private-stays : (steps : List Step) (w : World) → heldAtItsCalls steps w ≡ true → steppedAll steps w .bytes Private ≡ w .bytes Private
+private-stays : (steps : List Step) (w : World) → held steps w → steppedAll steps w .bytes Private ≡ w .bytes Private
 private-stays [] w h = refl
 private-stays (step ∷ steps) w h =
-    let asked = first-and-later step steps w h in
+    let asked = first-and-later TheZ80 step steps w h in
     private-stays steps (stepped step w) (asked .1) ∙ go (asked .0) (isZ80 (callOf step)) refl
   where
     go :
-        (isZ80 (callOf step) ≡ true → z80Runs (w .machine) ≡ false) → (z : Bool) → isZ80 (callOf step) ≡ z
+        (isZ80 (callOf step) ≡ true → isStopped TheZ80 (w .machine) ≡ true) → (z : Bool) → isZ80 (callOf step) ≡ z
         → stepped step w .bytes Private ≡ w .bytes Private
-    go held true is = ap (λ (u : World). u .bytes Private) (step-stays step w is (held is))
-    go held false is = step-leaves step w Private (aside (callOf step) is .0)
+    go stops true is = ap (λ (u : World). u .bytes Private) (step-stays TheZ80 step w is (stops is))
+    go stops false is = step-leaves step w Private (aside (callOf step) is .0)
+
+-- a step that the Z80 makes while it is held, or that is no accepted store of the 8088 into shared memory, leaves it
+shared-stays :
+    (step : Step) (w : World) → (isZ80 (callOf step) ≡ true → isStopped TheZ80 (w .machine) ≡ true)
+    → storesShared (callOf step) && not (refuses (answerOf step w .refusal)) ≡ false
+    → stepped step w .bytes Shared ≡ w .bytes Shared
+shared-stays step w stops none = go (isZ80 (callOf step)) (storesShared (callOf step)) (refuses (answerOf step w .refusal)) refl refl refl none
+  where
+    same : stepped step w ≡ w → stepped step w .bytes Shared ≡ w .bytes Shared
+    same = ap (λ (u : World). u .bytes Shared)
+
+    go :
+        (z s r : Bool) → isZ80 (callOf step) ≡ z → storesShared (callOf step) ≡ s → refuses (answerOf step w .refusal) ≡ r
+        → s && not r ≡ false → stepped step w .bytes Shared ≡ w .bytes Shared
+    go true s r e f g h = same (step-stays TheZ80 step w e (stops e))
+    go false true true e f g h = same (step-refused step w g)
+    go false true false e f g h = absurd (true≢false h)
+    go false false r e f g h = step-leaves step w Shared (aside (callOf step) e .1 f)
 
 shared-by-stores :
-    (steps : List Step) (w v : World) → heldAtItsCalls steps w ≡ true → SameLengths w v → w .bytes Shared ≡ v .bytes Shared
-    → steppedAll steps w .bytes Shared ≡ steppedAll (stores8088 steps) v .bytes Shared
-shared-by-stores [] w v h lengths same = same
-shared-by-stores (step ∷ steps) w v h lengths same =
-    let asked = first-and-later step steps w h in
-    go (asked .0) (λ u. shared-by-stores steps (stepped step w) u (asked .1)) (isStore8088 (callOf step)) (isZ80 (callOf step)) refl refl
+    (steps : List Step) (w v : World) → held steps w → v .machine .reset ≡ false → SameLengths w v → w .bytes Shared ≡ v .bytes Shared
+    → steppedAll steps w .bytes Shared ≡ steppedAll (acceptedStores steps w) v .bytes Shared
+shared-by-stores [] w v h out lengths same = same
+shared-by-stores (step ∷ steps) w v h out lengths same =
+    let asked = first-and-later TheZ80 step steps w h in
+    go (asked .0) (λ u. shared-by-stores steps (stepped step w) u (asked .1)) (storesShared (callOf step) && not (refuses (answerOf step w .refusal))) refl
   where
-    go :
-        (isZ80 (callOf step) ≡ true → z80Runs (w .machine) ≡ false)
-        → ((u : World) → SameLengths (stepped step w) u → stepped step w .bytes Shared ≡ u .bytes Shared
-        → steppedAll steps (stepped step w) .bytes Shared ≡ steppedAll (stores8088 steps) u .bytes Shared)
-        → (stores z : Bool) → isStore8088 (callOf step) ≡ stores → isZ80 (callOf step) ≡ z
-        → steppedAll steps (stepped step w) .bytes Shared ≡ steppedAll (cond stores (step ∷ stores8088 steps) (stores8088 steps)) v .bytes Shared
-    go held later true z s is =
-        later (stepped step v) (λ memory. step-lengths step w memory ∙ lengths memory ∙ sym (step-lengths step v memory))
-        (step-alike step s w v lengths same)
-    go held later false true s is =
-        later v (λ memory. step-lengths step w memory ∙ lengths memory)
-        (ap (λ (u : World). u .bytes Shared) (step-stays step w is (held is)) ∙ same)
-    go held later false false s is =
-        later v (λ memory. step-lengths step w memory ∙ lengths memory)
-        (step-leaves step w Shared (aside (callOf step) is .1 s) ∙ same)
+    later : List Step
+    later = acceptedStores steps (stepped step w)
 
-all-refused : (steps : List Step) (w : World) → heldAtItsCalls steps w ≡ true → allSevenOrOne (refusalsZ80 steps w) ≡ true
-all-refused [] w h = refl
-all-refused (step ∷ steps) w h =
-    let asked = first-and-later step steps w h in
-    go (asked .0) (all-refused steps (stepped step w) (asked .1)) (isZ80 (callOf step)) refl
-  where
     go :
-        (isZ80 (callOf step) ≡ true → z80Runs (w .machine) ≡ false) → allSevenOrOne (refusalsZ80 steps (stepped step w)) ≡ true
-        → (z : Bool) → isZ80 (callOf step) ≡ z
-        → allSevenOrOne
-        (cond z (answerOf step w .refusal ∷ refusalsZ80 steps (stepped step w)) (refusalsZ80 steps (stepped step w)))
-        ≡ true
-    go held later true is = rw (step-answers step w is (held is)) later
-    go held later false is = later
+        (isZ80 (callOf step) ≡ true → isStopped TheZ80 (w .machine) ≡ true)
+        → ((u : World) → u .machine .reset ≡ false → SameLengths (stepped step w) u → stepped step w .bytes Shared ≡ u .bytes Shared
+        → steppedAll steps (stepped step w) .bytes Shared ≡ steppedAll later u .bytes Shared)
+        → (accepts : Bool) → storesShared (callOf step) && not (refuses (answerOf step w .refusal)) ≡ accepts
+        → steppedAll steps (stepped step w) .bytes Shared ≡ steppedAll (cond accepts (step ∷ later) later) v .bytes Shared
+    go stops rest true is =
+        let both = and-eq-true-iff (storesShared (callOf step)) (not (refuses (answerOf step w .refusal))) .0 is in
+        let alike = step-alike step w v out lengths same (both .0) (not-true _ (both .1)) in
+        rest (stepped step v) (alike .1) (λ memory. step-lengths step w memory ∙ lengths memory ∙ sym (step-lengths step v memory)) (alike .0)
+    go stops rest false is =
+        rest v out (λ memory. step-lengths step w memory ∙ lengths memory) (shared-stays step w stops is ∙ same)
 
 pub held-touches-nothing : HeldTouchesNothing
 held-touches-nothing steps w h =
     record {
-      as-without = as-without steps w h;
+      touches-nothing = stopped-touches-nothing TheZ80 steps w h;
       private = private-stays steps w h;
-      shared = shared-by-stores steps w w h (λ memory. refl) refl;
-      answers = all-refused steps w h;
+      shared = shared-by-stores steps w (outOfReset w) h refl (λ memory. refl) refl;
     }
 
 step-holds :
@@ -235,7 +184,7 @@ step-holds :
 step-holds (Made call) w h clear = keeps-the-bit call w false h clear
 step-holds (Lending lent call) w h clear = keeps-the-bit call (lending lent w) false h clear
 
-stays-held : (steps : List Step) (w : World) → z80Runs (w .machine) ≡ false → NoneLetsItRun steps → heldAtItsCalls steps w ≡ true
+stays-held : (steps : List Step) (w : World) → z80Runs (w .machine) ≡ false → NoneLetsItRun steps → held steps w
 stays-held [] w h none = refl
 stays-held (step ∷ steps) w h none =
     rw (h, stays-held steps (stepped step w) (step-holds step w h (none .0)) (none .1)) (go (isZ80 (callOf step)))

@@ -9,17 +9,18 @@ use borrow.Author.Tests.{not-true}
 use Rattle.lent.specs.Refusals.{accepted, refuses, lengthRefused}
 use Rattle.lent.proofs.Tests.{either}
 use Rattle.memories.specs.View8088.{seen8088}
-use Rattle.memories.proofs.Laws.{lent8088}
+use Rattle.memories.proofs.Laws.{lent8088, accepted-right}
 use Rattle.chain.proofs.Searching.{neither}
 use Rattle.picture.specs.Picture.{pictureOf}
 use Rattle.picture.specs.Draw.{lengthsPicture, DrawnPicture, chainOf}
 use Rattle.mending.specs.Store.{lengthsWithPicture, storeWithPicture}
 use Rattle.mending.specs.True.{TruePicture}
-use Rattle.mending.proofs.Outcome.{lent-with-picture, wrong-outcome}
+use Rattle.mending.proofs.Outcome.{lent-with-picture}
 use Rattle.mending.proofs.True.{keeps-true}
-use Rattle.runs.specs.World.{Memory, Shared, Screen, Attribute, Picture, World, Call, Read8088, Store8088, ReadZ80, StoreZ80, ReadShadow, WriteShadow, WritePort, VerticalTick, Draw, StoreWithPicture, GlyphPart, DrawLine, after, answer}
+use Rattle.runs.specs.World.{Memory, Shared, Screen, Attribute, Picture, World, Call, Read8088, Store8088, ReadZ80, StoreZ80, ReadShadow, WriteShadow, WritePort, VerticalTick, WatchdogTick, Draw, StoreWithPicture, GlyphPart, DrawLine, after, answer}
 use Rattle.runs.specs.Reach.{AllOf, has, mayChange}
-use Rattle.runs.specs.Kept.{Lent, Own, Another, lentBytes, keptBytes, lending, keeping, leavesPictureBehind, Step, Made, Lending, stepped, inRuns, TheThreeAreIn, allInRuns, sameColumns, played, playedAll, Kept, KeptByRuns, KeptFromDrawing}
+use Rattle.runs.specs.Kept.{Lent, Own, Another, lentBytes, keptBytes, lending, keeping, leavesPictureBehind, Step, Made, Lending, stepped, inRuns, TheseAreIn, allInRuns, sameColumns, played, playedAll, Kept, KeptByRuns, KeptFromDrawing}
+use Rattle.runs.proofs.Worlds.{refusedWithPicture, picture-refused}
 use Rattle.runs.proofs.Refused.{changes-nothing}
 use Rattle.runs.proofs.Reach.{stored-apart, changes-only, lengths-stay}
 
@@ -57,14 +58,12 @@ module _ (w : World) where
       go false h = rw (h, h)
 
   store-kept : (a b : ℕ) → Kept w → Kept (after (StoreWithPicture a b) w)
-  store-kept a b k =
-      go (lengthsWithPicture (length (w .bytes Shared)) (length (w .bytes Screen)) (length (w .bytes Attribute)) (length (w .bytes Picture))) refl
+  store-kept a b k = go (refusedWithPicture a w) refl
     where
-      go :
-          (right : Bool)
-          → lengthsWithPicture (length (w .bytes Shared)) (length (w .bytes Screen)) (length (w .bytes Attribute)) (length (w .bytes Picture)) ≡ right
-          → Kept (after (StoreWithPicture a b) w)
-      go true h =
+      go : (r : Bool) → refusedWithPicture a w ≡ r → Kept (after (StoreWithPicture a b) w)
+      go true r = subst Kept (sym (picture-refused a b w r)) k
+      go false r =
+          let h = accepted-right (w .machine) _ a r .0 in
           let drawn = drawable-too (length (w .bytes Shared)) (length (w .bytes Screen)) (length (w .bytes Attribute)) (length (w .bytes Picture)) h in
           let is-fresh : fresh ≡ w .bytes Picture = rw drawn at k in
           let left = storeWithPicture (w .machine) (w .bytes Shared) (w .bytes Screen) (w .bytes Attribute) (w .bytes Picture) a b in
@@ -75,8 +74,6 @@ module _ (w : World) where
           drawable-too (length (left .shared)) (length (left .screen)) (length (left .attribute)) (length (left .picture))
           (t .lengths) in
           rw draws (sym (t .fresh))
-      go false h =
-          rw (← wrong-outcome (w .machine) (w .bytes Shared) (w .bytes Screen) (w .bytes Attribute) (w .bytes Picture) a b h) k
 
 -- a call that leaves screen, attribute, picture and column setting
 same-kept :
@@ -101,9 +98,9 @@ quiet-kept call w apart behind same k =
     reads false e true h = absurd (true≢false h)
     reads false e false h = refl
 
-pub the-three-are-in : TheThreeAreIn
+pub these-are-in : TheseAreIn
 unfolding has
-the-three-are-in address byte port code w = (rw and-false, (refl, refl))
+these-are-in address byte port code w = (rw and-false, (refl, (refl, (refl, refl))))
 
 call-kept :
     (call : Call) (w : World) → leavesPictureBehind call ≡ false → sameColumns w (after call w) ≡ true → Kept w → Kept (after call w)
@@ -118,6 +115,7 @@ call-kept (ReadShadow p) w h c k = k
 call-kept (WriteShadow p b) w h c k = quiet-kept (WriteShadow p b) w refl h c k
 call-kept (WritePort p n) w h c k = quiet-kept (WritePort p n) w refl h c k
 call-kept VerticalTick w h c k = quiet-kept VerticalTick w refl h c k
+call-kept WatchdogTick w h c k = quiet-kept WatchdogTick w refl h c k
 call-kept (GlyphPart n) w h c k = k
 call-kept (DrawLine r s) w h c k = quiet-kept (DrawLine r s) w refl h c k
 

@@ -1,9 +1,13 @@
 pub mod NoSecond
 pub mod Worlds
+pub mod Ports
 pub mod Refused
 pub mod Reach
 pub mod Sees
 pub mod Z80
 pub mod Shadow
 pub mod Kept
+pub mod Stopped
 pub mod Held
+pub mod Reset
+pub mod Watchdog

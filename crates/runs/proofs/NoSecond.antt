@@ -5,6 +5,7 @@ use mathlib.Core.Path.{_≡_, sym, _∙_}
 use denote.Ref.{now}
 use Rattle.machine.proofs.Machine.power_up.Reads as power-up
 use Rattle.machine.proofs.Machine.vertical_tick.Reads as vertical-tick
+use Rattle.machine.proofs.Machine.watchdog_tick.Reads as watchdog-tick
 use Rattle.machine.proofs.Machine.columns.Reads as columns
 use Rattle.machine.proofs.Machine.scroll_latch.Reads as scroll-latch
 use Rattle.machine.proofs.Machine.z80_runs.Reads as z80-runs
@@ -41,6 +42,7 @@ use Rattle.commands.proofs.form_text.Reads as form-text
 use Rattle.commands.proofs.form_count.Reads as form-count
 use Rattle.rainbow.proofs.machine_calls.rainbow_power_up.Reads as c-power-up
 use Rattle.rainbow.proofs.machine_calls.rainbow_vertical_tick.Reads as c-vertical-tick
+use Rattle.rainbow.proofs.machine_calls.rainbow_watchdog_tick.Reads as c-watchdog-tick
 use Rattle.rainbow.proofs.machine_calls.rainbow_columns.Reads as c-columns
 use Rattle.rainbow.proofs.machine_calls.rainbow_scroll_latch.Reads as c-scroll-latch
 use Rattle.rainbow.proofs.machine_calls.rainbow_z80_runs.Reads as c-z80-runs
@@ -71,6 +73,9 @@ power-up-once κs a one two = no-second
 pub vertical-tick-once : AnswersOnce vertical-tick.Post
 vertical-tick-once κs a one two = no-second
 
+pub watchdog-tick-once : AnswersOnce watchdog-tick.Post
+watchdog-tick-once κs a one two = no-second
+
 pub columns-once : AnswersOnce columns.Post
 columns-once κs a one two = no-second
 
@@ -89,7 +94,7 @@ graphics-once κs a one two = no-second
 pub read-8088-once : AnswersOnce read-8088.Post
 read-8088-once κs a one two = no-second
 
-pub store-8088-once : Once store-8088.Post (λ κs r s. stored8088 r (now (s .0)) (now (s .1 .0)) (now (s .1 .1 .0)))
+pub store-8088-once : Once store-8088.Post (λ κs r s. stored8088 r (now (s .1 .0)) (now (s .1 .1 .0)) (now (s .1 .1 .1 .0)))
 store-8088-once κs a one two = no-second
 
 pub read-z80-once : AnswersOnce read-z80.Post
@@ -101,7 +106,7 @@ store-z80-once κs a one two = no-second
 pub read-shadow-once : AnswersOnce read-shadow.Post
 read-shadow-once κs a one two = no-second
 
-pub write-shadow-once : Once write-shadow.Post (λ κs r s. writtenShadow r (now (s .0)))
+pub write-shadow-once : Once write-shadow.Post (λ κs r s. writtenShadow r (now (s .1 .0)))
 write-shadow-once κs a one two = no-second
 
 pub write-port-once : Once write-port.Post (λ κs r s. writtenPort r (now (s .1 .0)) (now (s .1 .1 .0)))
@@ -157,6 +162,9 @@ c-power-up-once κs a one two = no-second
 pub c-vertical-tick-once : AnswersOnce c-vertical-tick.Post
 c-vertical-tick-once κs a one two = no-second
 
+pub c-watchdog-tick-once : AnswersOnce c-watchdog-tick.Post
+c-watchdog-tick-once κs a one two = no-second
+
 pub c-columns-once : AnswersOnce c-columns.Post
 c-columns-once κs a one two = no-second
 
@@ -181,7 +189,7 @@ c-write-port-once κs a one two = no-second
 pub c-read-8088-once : AnswersOnce c-read-8088.Post
 c-read-8088-once κs a one two = no-second
 
-pub c-store-8088-once : Once c-store-8088.Post (λ κs r s. stored8088 r (now (s .0)) (now (s .1 .0)) (now (s .1 .1 .0)))
+pub c-store-8088-once : Once c-store-8088.Post (λ κs r s. stored8088 r (now (s .1 .0)) (now (s .1 .1 .0)) (now (s .1 .1 .1 .0)))
 c-store-8088-once κs a one two = no-second
 
 pub c-read-z80-once : AnswersOnce c-read-z80.Post
@@ -193,7 +201,7 @@ c-store-z80-once κs a one two = no-second
 pub c-read-shadow-once : AnswersOnce c-read-shadow.Post
 c-read-shadow-once κs a one two = no-second
 
-pub c-write-shadow-once : Once c-write-shadow.Post (λ κs r s. writtenShadow r (now (s .0)))
+pub c-write-shadow-once : Once c-write-shadow.Post (λ κs r s. writtenShadow r (now (s .1 .0)))
 c-write-shadow-once κs a one two = no-second
 
 pub c-draw-once : Once c-draw.Post (λ κs r s. drawn r (now (s .1 .1 .1 .0)))

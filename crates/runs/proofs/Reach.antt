@@ -7,11 +7,12 @@ use native.Mathlib.Omega.{arith}
 use lib.ListN.{length, set, take, drop, length-set}
 use lib.Seq.{take-set-le, drop-set-lt}
 use lib.Dec.{eqb, ltb}
-use borrow.Author.Tests.{ltb-true, ltb-false, eqb-false, ne-eqb, not-false}
+use borrow.Author.Tests.{ltb-true, ltb-false, eqb-false, ne-eqb}
 use Rattle.lent.specs.Lengths.{shadowBytes, nvmBytes, pictureBytes, lineBytes}
 use Rattle.lent.specs.Refusals.{accepted, refuses, lengthRefused, placeRefused}
 use Rattle.lent.proofs.Tests.{either}
 use Rattle.machine.specs.Settings.{z80Runs}
+use Rattle.machine.specs.Watchdog.{watchTicks, counts, watchdogTick}
 use Rattle.machine.specs.declared.Machine.{Machine}
 use Rattle.memories.specs.View8088.{seen8088}
 use Rattle.memories.specs.ViewZ80.{sharedFrom, isPrivate}
@@ -19,8 +20,8 @@ use Rattle.memories.specs.declared.view8088.Seen.{Seen}
 use Rattle.memories.specs.declared.view8088.Seen.the-variants.{Shared as InShared, Screen as InScreen, Attribute as InAttribute, Nowhere}
 use Rattle.shadow.specs.Shadow.{refusalShadow, WrittenShadow}
 use Rattle.diagnostic.specs.Diagnostic.{WrittenPort, rises, writeDiagnostic}
-use Rattle.ports.specs.Ports.{lengthsNvm, isPort, writePort}
-use Rattle.ports.proofs.Laws.{lentNvm}
+use Rattle.ports.specs.Ports.{refusalPort, writePort}
+use Rattle.ports.proofs.Laws.{lent-nvm}
 use Rattle.chain.proofs.Searching.{neither}
 use Rattle.picture.specs.Picture.{recordIn}
 use Rattle.picture.specs.Draw.{lengthsPicture, chainOf, refusalDrawing, DrawnPicture}
@@ -31,13 +32,15 @@ use Rattle.mending.proofs.Outcome.{accepts}
 use Rattle.scan_line.specs.Call.{lengthsLine, onTube, refusalLine, DrawnLine}
 use Rattle.scan_line.proofs.Laws.{lentLine}
 use Rattle.scan_line.proofs.Line.{line-sized}
-use Rattle.runs.specs.World.{Memory, Shared, Private, Screen, Attribute, Glyphs, Nvm, Shadow, Picture, Line, numberOf, isMemory, World, withMachine, withBytes, Read8088, Store8088, ReadZ80, StoreZ80, ReadShadow, WriteShadow, WritePort, VerticalTick, Draw, StoreWithPicture, GlyphPart, DrawLine, after}
-use Rattle.runs.specs.Reach.{Part, TheMachine, Z80Bit, Below0800, From0800, AllOf, numberOfPart, has, Same, storedAt, ChangesOnly, LengthsStay}
+use Rattle.runs.specs.World.{Memory, Shared, Private, Screen, Attribute, Glyphs, Nvm, Shadow, Picture, Line, numberOf, isMemory, World, withMachine, withBytes, Read8088, Store8088, ReadZ80, StoreZ80, ReadShadow, WriteShadow, WritePort, VerticalTick, WatchdogTick, Draw, StoreWithPicture, GlyphPart, DrawLine, after}
+use Rattle.runs.specs.Reach.{Part, TheMachine, Z80Bit, InReset, Below0800, From0800, AllOf, numberOfPart, has, Same, storedAt, ChangesOnly, LengthsStay}
+use Rattle.runs.proofs.Ports.{port-reset}
 use Rattle.runs.proofs.Worlds.{with-length, storedIn, stored-length, refused8088, store-refused, store-accepted, refusedZ80, z80-refused, z80-private, z80-shared, not-below, mendedIn, refusedWithPicture, picture-refused, picture-accepted}
 
 pub same-refl : (part : Part) (w : World) → Same part w w
 same-refl TheMachine w = refl
 same-refl Z80Bit w = refl
+same-refl InReset w = refl
 same-refl Below0800 w = refl
 same-refl From0800 w = refl
 same-refl (AllOf memory) w = refl
@@ -50,6 +53,7 @@ same-by part u u′ v v′ e f h =
 pub same-trans : (part : Part) (u w v : World) → Same part u w → Same part w v → Same part u v
 same-trans TheMachine u w v p q = p ∙ q
 same-trans Z80Bit u w v p q = p ∙ q
+same-trans InReset u w v p q = p ∙ q
 same-trans Below0800 u w v p q = p ∙ q
 same-trans From0800 u w v p q = p ∙ q
 same-trans (AllOf memory) u w v p q = p ∙ q
@@ -65,7 +69,7 @@ other-memory :
     (memory one : Memory) → eqb (numberOfPart (AllOf one)) (numberOfPart (AllOf memory)) ≡ false → isMemory one memory ≡ false
 other-memory memory one h =
     ne-eqb (numberOf one) (numberOf memory)
-    (λ e. eqb-false (4 + numberOf one) (4 + numberOf memory) h (ap (λ (n : ℕ). 4 + n) e))
+    (λ e. eqb-false (5 + numberOf one) (5 + numberOf memory) h (ap (λ (n : ℕ). 5 + n) e))
 
 -- other bytes in a memory that is not shared memory leave every part but that memory
 with-leaves :
@@ -73,6 +77,7 @@ with-leaves :
     → (part : Part) → eqb (numberOfPart part) (numberOfPart (AllOf memory)) ≡ false → Same part (withBytes memory new w) w
 with-leaves memory new w other TheMachine h = refl
 with-leaves memory new w other Z80Bit h = refl
+with-leaves memory new w other InReset h = refl
 with-leaves memory new w other Below0800 h = rw other
 with-leaves memory new w other From0800 h = rw other
 with-leaves memory new w other (AllOf one) h = rw (other-memory memory one h)
@@ -86,6 +91,7 @@ module _ (w : World) (place byte : ℕ) where
       (part : Part) → has (AllOf Shared ∷ half ∷ []) part ≡ false → Same part (withBytes Shared (set (w .bytes Shared) place byte) w) w
   shared-leaves TheMachine h = refl
   shared-leaves Z80Bit h = refl
+  shared-leaves InReset h = refl
   shared-leaves Below0800 h = go (ltb place sharedFrom) refl (apart half [] _ (apart (AllOf Shared) (half ∷ []) _ h .1) .0)
     where
       go :
@@ -108,11 +114,10 @@ port-sized :
     → let left = writePort (w .machine) (w .bytes Shadow) (w .bytes Nvm) port code in
     (length (left .shadow) ≡ length (w .bytes Shadow)) × (length (left .nvm) ≡ length (w .bytes Nvm))
 port-sized w port code =
-    either Sized (not (lengthsNvm (length (w .bytes Shadow)) (length (w .bytes Nvm)))) _ _ (λ _. (refl, refl))
-    (λ right. either Sized (not (isPort port)) _ _ (λ _. (refl, refl))
-    (λ _. either Sized (eqb port 0x04) _ _ (λ _. (refl, refl))
-    (λ _. either Sized (eqb port 0x0A) _ _ (λ _. copies (lentNvm (not-false _ right)))
-    (λ _. either Sized (eqb port 0x0C) _ _ (λ _. (refl, refl)) (λ _. (refl, refl))))))
+    either Sized (refuses (refusalPort (w .machine) (length (w .bytes Shadow)) (length (w .bytes Nvm)) port)) _ _ (λ _. (refl, refl))
+    (λ goes-on. either Sized (eqb port 0x04) _ _ (λ _. (refl, refl))
+    (λ _. either Sized (eqb port 0x0A) _ _ (λ _. copies (lent-nvm (w .machine) _ _ port refl (λ e. true≢false (sym (ap refuses e) ∙ goes-on))))
+    (λ _. either Sized (eqb port 0x0C) _ _ (λ _. (refl, refl)) (λ _. (refl, refl)))))
   where
     Sized : WrittenPort → Type 0
     Sized left = (length (left .shadow) ≡ length (w .bytes Shadow)) × (length (left .nvm) ≡ length (w .bytes Nvm))
@@ -172,19 +177,19 @@ stored-apart seen part h = go seen
     n : ℕ
     n = numberOfPart part
 
-    shared : (eqb n 4 ≡ false) × (eqb n 2 || (eqb n 3 || (eqb n 6 || (eqb n 7 || false))) ≡ false)
-    shared = neither (eqb n 4) _ h
+    shared : (eqb n 5 ≡ false) × (eqb n 3 || (eqb n 4 || (eqb n 7 || (eqb n 8 || false))) ≡ false)
+    shared = neither (eqb n 5) _ h
 
-    below : (eqb n 2 ≡ false) × (eqb n 3 || (eqb n 6 || (eqb n 7 || false)) ≡ false)
-    below = neither (eqb n 2) _ (shared .1)
+    below : (eqb n 3 ≡ false) × (eqb n 4 || (eqb n 7 || (eqb n 8 || false)) ≡ false)
+    below = neither (eqb n 3) _ (shared .1)
 
-    from : (eqb n 3 ≡ false) × (eqb n 6 || (eqb n 7 || false) ≡ false)
-    from = neither (eqb n 3) _ (below .1)
+    from : (eqb n 4 ≡ false) × (eqb n 7 || (eqb n 8 || false) ≡ false)
+    from = neither (eqb n 4) _ (below .1)
 
-    screens : (eqb n 6 ≡ false) × (eqb n 7 || false ≡ false)
-    screens = neither (eqb n 6) _ (from .1)
+    screens : (eqb n 7 ≡ false) × (eqb n 8 || false ≡ false)
+    screens = neither (eqb n 7) _ (from .1)
 
-    halves : (b : Bool) → eqb n 4 || (eqb n (numberOfPart (cond b Below0800 From0800)) || false) ≡ false
+    halves : (b : Bool) → eqb n 5 || (eqb n (numberOfPart (cond b Below0800 From0800)) || false) ≡ false
     halves true = rw (shared .0, below .0)
     halves false = rw (shared .0, from .0)
 
@@ -194,15 +199,25 @@ stored-apart seen part h = go seen
     go (InAttribute place) = screens .1
     go Nowhere = refl
 
--- another machine leaves every part but the machine, and the bit too if it is the same
+-- another machine leaves every part but the machine, and the bit and reset too if they are the same
 machine-leaves :
     (m : Machine) (w : World) (part : Part) → eqb (numberOfPart part) (numberOfPart TheMachine) ≡ false
-    → (part ≡ Z80Bit → z80Runs m ≡ z80Runs (w .machine)) → Same part (withMachine m w) w
-machine-leaves m w TheMachine h b = absurd (true≢false h)
-machine-leaves m w Z80Bit h b = b refl
-machine-leaves m w Below0800 h b = refl
-machine-leaves m w From0800 h b = refl
-machine-leaves m w (AllOf memory) h b = refl
+    → (part ≡ Z80Bit → z80Runs m ≡ z80Runs (w .machine)) → (part ≡ InReset → m .reset ≡ w .machine .reset)
+    → Same part (withMachine m w) w
+machine-leaves m w TheMachine h b r = absurd (true≢false h)
+machine-leaves m w Z80Bit h b r = b refl
+machine-leaves m w InReset h b r = r refl
+machine-leaves m w Below0800 h b r = refl
+machine-leaves m w From0800 h b r = refl
+machine-leaves m w (AllOf memory) h b r = refl
+
+-- a tick of the watchdog leaves whether the Z80 runs
+pub tick-runs : (m : Machine) → z80Runs (watchdogTick m) ≡ z80Runs m
+tick-runs m =
+    either Runs (not (counts m)) _ _ (λ _. refl) (λ _. either Runs (ltb (m .count + 1) watchTicks) _ _ (λ _. refl) (λ _. refl))
+  where
+    Runs : Machine → Type 0
+    Runs n = z80Runs n ≡ z80Runs m
 
 pub changes-only : ChangesOnly
 changes-only (Read8088 a) w part h = same-refl part w
@@ -231,10 +246,15 @@ changes-only (WritePort p k) w part h =
     let saved = withBytes Nvm (left .nvm) w in
     let recalled = withBytes Shadow (left .shadow) saved in
     same-trans part (after (WritePort p k) w) recalled w
-    (machine-leaves (left .answer .machine) recalled part (aside .0) (λ is. absurd (true≢false (rw is at bit .0))))
+    (machine-leaves (left .answer .machine) recalled part (aside .0) (λ is. absurd (true≢false (rw is at bit .0)))
+    (λ _. port-reset (w .machine) (w .bytes Shadow) (w .bytes Nvm) p k))
     (same-trans part recalled saved w (with-leaves Shadow (left .shadow) saved refl part (later .0))
     (with-leaves Nvm (left .nvm) w refl part (apart (AllOf Nvm) [] part (later .1) .0)))
-changes-only VerticalTick w part h = machine-leaves _ w part (apart TheMachine [] part h .0) (λ _. refl)
+changes-only VerticalTick w part h = machine-leaves _ w part (apart TheMachine [] part h .0) (λ _. refl) (λ _. refl)
+changes-only WatchdogTick w part h =
+    let aside = apart TheMachine (InReset ∷ []) part h in
+    let ticking = apart InReset [] part (aside .1) in
+    machine-leaves _ w part (aside .0) (λ _. tick-runs (w .machine)) (λ is. absurd (true≢false (rw is at ticking .0)))
 changes-only Draw w part h = with-leaves Picture _ w refl part (apart (AllOf Picture) [] part h .0)
 changes-only (StoreWithPicture a b) w part h = go (refusedWithPicture a w) refl
   where
@@ -272,7 +292,7 @@ lengths-stay (StoreZ80 a b) w one = go (refusedZ80 w) (isPrivate a) refl refl
 lengths-stay (ReadShadow p) w one = refl
 lengths-stay (WriteShadow p b) w one =
     with-length Shadow _ w
-    (either (λ (left : WrittenShadow). length (left .shadow) ≡ length (w .bytes Shadow)) (refuses (refusalShadow (w .bytes Shadow) p)) _ _
+    (either (λ (left : WrittenShadow). length (left .shadow) ≡ length (w .bytes Shadow)) (refuses (refusalShadow (w .machine) (w .bytes Shadow) p)) _ _
     (λ _. refl) (λ _. length-set (w .bytes Shadow) p _))
     one
 lengths-stay (WritePort p k) w one =
@@ -280,6 +300,7 @@ lengths-stay (WritePort p k) w one =
     let sized = port-sized w p k in
     with-length Shadow (left .shadow) (withBytes Nvm (left .nvm) w) (sized .0) one ∙ with-length Nvm (left .nvm) w (sized .1) one
 lengths-stay VerticalTick w one = refl
+lengths-stay WatchdogTick w one = refl
 lengths-stay Draw w one =
     with-length Picture _ w
     (either (λ (left : DrawnPicture). length (left .picture) ≡ length (w .bytes Picture))

@@ -21,12 +21,12 @@ use Rattle.shadow.specs.Shadow.{refusalShadow, WrittenShadow}
 use Rattle.dc011.specs.Dc011.{dc011Code, writeDc011}
 use Rattle.dc012.specs.Dc012.{writeDc012}
 use Rattle.diagnostic.specs.Diagnostic.{WrittenPort, writtenPort, writeDiagnostic, rises}
-use Rattle.ports.specs.Ports.{lengthsNvm, isPort, watched, writePort}
+use Rattle.ports.specs.Ports.{refusalPort, watched, writePort}
 use Rattle.picture.specs.Draw.{refusalDrawing, DrawnPicture}
 use Rattle.mending.specs.Store.{StoredWithPicture, refusalWithPicture}
 use Rattle.glyphs.specs.Glyphs.{glyphPart, partRefusal}
 use Rattle.scan_line.specs.Call.{refusalLine, DrawnLine}
-use Rattle.runs.specs.World.{Shared, Private, Screen, Attribute, Glyphs, Nvm, Shadow, Picture, Line, World, withMachine, withBytes, readAnswer, drawnAnswer, Read8088, Store8088, ReadZ80, StoreZ80, ReadShadow, WriteShadow, WritePort, VerticalTick, Draw, StoreWithPicture, GlyphPart, DrawLine}
+use Rattle.runs.specs.World.{Shared, Private, Screen, Attribute, Glyphs, Nvm, Shadow, Picture, Line, World, withMachine, withBytes, readAnswer, drawnAnswer, Read8088, Store8088, ReadZ80, StoreZ80, ReadShadow, WriteShadow, WritePort, VerticalTick, WatchdogTick, Draw, StoreWithPicture, GlyphPart, DrawLine}
 use Rattle.runs.specs.Refused.{AllZero, ChangesNothing}
 use Rattle.runs.proofs.Worlds.{with-own, left8088, none-stored}
 
@@ -79,7 +79,8 @@ module _ (w : World) where
 
   watched-kept : (code : ℕ) (enabled : Bool) → KeptChip (watched (writeDc012 (w .machine) code) enabled)
   watched-kept code enabled =
-      either KeptChip (refuses (writeDc012 (w .machine) code .refusal)) _ _ (λ _. dc012-kept code) (λ _ h. absurd (h refl))
+      either KeptChip (refuses (writeDc012 (w .machine) code .refusal)) _ _ (λ _. dc012-kept code)
+      (λ _. listed (enabled && writeDc012 (w .machine) code .machine .watchdog) _ _ (λ h. absurd (h refl)))
 
   diagnostic-kept : (code : ℕ) → KeptPort (writeDiagnostic (w .machine) (w .bytes Shadow) (w .bytes Nvm) code)
   diagnostic-kept code =
@@ -88,17 +89,17 @@ module _ (w : World) where
 
   port-kept : (port code : ℕ) → KeptPort (writePort (w .machine) (w .bytes Shadow) (w .bytes Nvm) port code)
   port-kept port code =
-      either KeptPort (not (lengthsNvm (length (w .bytes Shadow)) (length (w .bytes Nvm)))) _ _ (λ _. refused-kept _)
-      (λ _. either KeptPort (not (isPort port)) _ _ (λ _. refused-kept _)
+      either KeptPort (refuses (refusalPort (w .machine) (length (w .bytes Shadow)) (length (w .bytes Nvm)) port)) _ _
+      (λ _. refused-kept _)
       (λ _. either KeptPort (eqb port 0x04) _ _ (λ _. dc011-kept code)
       (λ _. either KeptPort (eqb port 0x0A) _ _ (λ _. diagnostic-kept code)
-      (λ _. either KeptPort (eqb port 0x0C) _ _ (λ _. watched-kept code true) (λ _. watched-kept code false)))))
+      (λ _. either KeptPort (eqb port 0x0C) _ _ (λ _. watched-kept code true) (λ _. watched-kept code false))))
 
 pub changes-nothing : ChangesNothing
 changes-nothing (Read8088 a) w h =
-    (refl, silent (refusal8088 (w .bytes Shared) (w .bytes Screen) (w .bytes Attribute) a) _ h)
+    (refl, silent (refusal8088 (w .machine) (w .bytes Shared) (w .bytes Screen) (w .bytes Attribute) a) _ h)
 changes-nothing (Store8088 a b) w h =
-    either Kept (refuses (refusal8088 (w .bytes Shared) (w .bytes Screen) (w .bytes Attribute) a)) _ _
+    either Kept (refuses (refusal8088 (w .machine) (w .bytes Shared) (w .bytes Screen) (w .bytes Attribute) a)) _ _
     (λ _ g. (none-stored _ _ _ 0 w refl refl refl, tt))
     (λ _ g. absurd (g (seen-accepted (seen8088 a) (w .bytes Shared) (w .bytes Screen) (w .bytes Attribute) b))) h
   where
@@ -118,15 +119,16 @@ changes-nothing (StoreZ80 a b) w h =
     Kept left =
         (left .refusal ≡ accepted → ⊥)
         → (withBytes Private (left .private) (withBytes Shared (left .shared) w) ≡ w) × AllZero []
-changes-nothing (ReadShadow p) w h = (refl, silent (refusalShadow (w .bytes Shadow) p) _ h)
+changes-nothing (ReadShadow p) w h = (refl, silent (refusalShadow (w .machine) (w .bytes Shadow) p) _ h)
 changes-nothing (WriteShadow p b) w h =
-    either Kept (refuses (refusalShadow (w .bytes Shadow) p)) _ _
+    either Kept (refuses (refusalShadow (w .machine) (w .bytes Shadow) p)) _ _
     (λ _ g. (with-own Shadow (w .bytes Shadow) w refl, tt)) (λ _ g. absurd (g refl)) h
   where
     Kept : WrittenShadow → Type 0
     Kept left = (left .refusal ≡ accepted → ⊥) → (withBytes Shadow (left .shadow) w ≡ w) × AllZero []
 changes-nothing (WritePort p k) w h = (port-kept w p k h, tt)
 changes-nothing VerticalTick w h = absurd (h refl)
+changes-nothing WatchdogTick w h = absurd (h refl)
 changes-nothing Draw w h =
     either Kept (refuses (refusalDrawing (w .bytes Screen) (w .bytes Attribute) (w .bytes Picture))) _ _
     (λ _ g. (with-own Picture (w .bytes Picture) w refl, (refl, (refl, (refl, tt))))) (λ _ g. absurd (g refl)) h
@@ -136,7 +138,7 @@ changes-nothing Draw w h =
         (left .answer .refusal ≡ accepted → ⊥)
         → (withBytes Picture (left .picture) w ≡ w) × AllZero (drawnAnswer (left .answer) .numbers)
 changes-nothing (StoreWithPicture a b) w h =
-    either Kept (refuses (refusalWithPicture (w .bytes Shared) (w .bytes Screen) (w .bytes Attribute) (w .bytes Picture) a)) _ _
+    either Kept (refuses (refusalWithPicture (w .machine) (w .bytes Shared) (w .bytes Screen) (w .bytes Attribute) (w .bytes Picture) a)) _ _
     (λ _ g. (
       none-stored _ _ _ 0 (withBytes Picture (w .bytes Picture) w) refl refl refl ∙ with-own Picture (w .bytes Picture) w refl,
       (refl, tt),

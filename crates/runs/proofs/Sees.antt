@@ -12,21 +12,22 @@ use Rattle.lent.specs.Refusals.{accepted, refuses}
 use Rattle.lent.proofs.Tests.{either}
 use Rattle.machine.specs.Power.{verticalTick}
 use Rattle.machine.specs.Settings.{z80Runs}
+use Rattle.machine.specs.Watchdog.{watchdogTick}
 use Rattle.machine.specs.declared.Machine.{Machine}
 use Rattle.memories.specs.View8088.{seen8088, refusal8088, storeSeen}
 use Rattle.memories.specs.ViewZ80.{sharedFrom, isPrivate, seenZ80, refusalZ80, StoredZ80, storeZ80}
 use Rattle.memories.specs.declared.view8088.Seen.{Seen}
 use Rattle.memories.specs.declared.view8088.Seen.the-variants.{Shared as InShared, Screen as InScreen, Attribute as InAttribute, Nowhere}
-use Rattle.memories.proofs.Laws.{refusal-by-bit, is-accepted, store-refusal}
+use Rattle.memories.proofs.Laws.{access-by-reset, refusal-by-bit, is-accepted, store-refusal}
 use Rattle.shadow.specs.Shadow.{refusalShadow, WrittenShadow, writeShadow}
+use Rattle.shadow.proofs.Laws.{place-by-reset}
 use Rattle.diagnostic.specs.Diagnostic.{WrittenPort}
 use Rattle.ports.specs.Ports.{writePort}
 use Rattle.picture.specs.Draw.{refusalDrawing, refuseDrawing, DrawnPicture, draw}
 use Rattle.mending.specs.Mending.{marksOf}
-use Rattle.mending.proofs.Outcome.{accepts}
 use Rattle.scan_line.specs.Call.{refusalLine, DrawnLine, drawLine}
-use Rattle.runs.specs.World.{Memory, Shared, Private, Screen, Attribute, Glyphs, Nvm, Shadow, Picture, Line, isMemory, World, withMachine, withBytes, answered, drawnAnswer, Read8088, Store8088, ReadZ80, StoreZ80, ReadShadow, WriteShadow, WritePort, VerticalTick, Draw, StoreWithPicture, GlyphPart, DrawLine, after, answer}
-use Rattle.runs.specs.Reach.{Part, TheMachine, Z80Bit, Below0800, From0800, AllOf, has, hasMemory, Same, Alike, SeesOnly}
+use Rattle.runs.specs.World.{Memory, Shared, Private, Screen, Attribute, Glyphs, Nvm, Shadow, Picture, Line, isMemory, World, withMachine, withBytes, answered, drawnAnswer, Read8088, Store8088, ReadZ80, StoreZ80, ReadShadow, WriteShadow, WritePort, VerticalTick, WatchdogTick, Draw, StoreWithPicture, GlyphPart, DrawLine, after, answer}
+use Rattle.runs.specs.Reach.{Part, TheMachine, Z80Bit, InReset, Below0800, From0800, AllOf, has, hasMemory, Same, Alike, SeesOnly}
 use Rattle.runs.proofs.Worlds.{is-memory, storedIn, refused8088, store-refused, store-accepted, refusedZ80, z80-refused, z80-private, z80-shared, not-below, mendedIn, refusedWithPicture, picture-refused, picture-accepted}
 use Rattle.runs.proofs.Reach.{same-by}
 
@@ -82,6 +83,7 @@ module _ (memory : Memory) (x y : List ℕ) (w v : World) (new : Same (AllOf mem
       isMemory Shared memory ≡ false → (part : Part) → Same part w v → Same part (withBytes memory x w) (withBytes memory y v)
   with-alike other TheMachine s = s
   with-alike other Z80Bit s = s
+  with-alike other InReset s = s
   with-alike other Below0800 s = rw other s
   with-alike other From0800 s = rw other s
   with-alike other (AllOf one) s = whole-alike one s
@@ -91,6 +93,7 @@ shared-alike :
     → Same part (withBytes Shared (set (w .bytes Shared) place byte) w) (withBytes Shared (set (v .bytes Shared) place byte) v)
 shared-alike place byte w v TheMachine s = s
 shared-alike place byte w v Z80Bit s = s
+shared-alike place byte w v InReset s = s
 shared-alike place byte w v Below0800 s =
     take-set sharedFrom (w .bytes Shared) place byte ∙ ap (λ (l : List ℕ). set l place byte) s
     ∙ sym (take-set sharedFrom (v .bytes Shared) place byte)
@@ -107,9 +110,19 @@ stored-alike (InAttribute place) byte w v part s =
     with-alike Attribute _ _ w v (λ e. ap (λ (l : List ℕ). set l place byte) e) refl part s
 stored-alike Nowhere byte w v part s = s
 
--- what an 8088 store does to a part goes by the lengths that it is lent and by that part
+-- by what a store is refused goes by reset and the lengths that it is lent
+pub refused-alike :
+    (a : ℕ) (w v : World) → Same InReset w v → length (w .bytes Shared) ≡ length (v .bytes Shared)
+    → length (w .bytes Screen) ≡ length (v .bytes Screen) → length (w .bytes Attribute) ≡ length (v .bytes Attribute)
+    → refusal8088 (w .machine) (w .bytes Shared) (w .bytes Screen) (w .bytes Attribute) a
+    ≡ refusal8088 (v .machine) (v .bytes Shared) (v .bytes Screen) (v .bytes Attribute) a
+refused-alike a w v reset s c t = rw (s, c, t) (access-by-reset (w .machine) (v .machine) _ a reset)
+
+-- what an 8088 store does to a part goes by that and by the part
 pub stores-alike :
-    (a b : ℕ) (w v : World) → refusal8088 (w .bytes Shared) (w .bytes Screen) (w .bytes Attribute) a ≡ refusal8088 (v .bytes Shared) (v .bytes Screen) (v .bytes Attribute) a
+    (a b : ℕ) (w v : World)
+    → refusal8088 (w .machine) (w .bytes Shared) (w .bytes Screen) (w .bytes Attribute) a
+    ≡ refusal8088 (v .machine) (v .bytes Shared) (v .bytes Screen) (v .bytes Attribute) a
     → (part : Part) → Same part w v → Same part (after (Store8088 a b) w) (after (Store8088 a b) v)
 stores-alike a b w v e part s = go (refused8088 a w) refl
   where
@@ -135,12 +148,13 @@ z80-alike a b w v e part s = go (refusedZ80 w) (isPrivate a) refl refl
 
 machine-alike :
     (m n : Machine) (w v : World) → (Same TheMachine w v → m ≡ n) → (Same Z80Bit w v → z80Runs m ≡ z80Runs n)
-    → (part : Part) → Same part w v → Same part (withMachine m w) (withMachine n v)
-machine-alike m n w v new bit TheMachine s = new s
-machine-alike m n w v new bit Z80Bit s = bit s
-machine-alike m n w v new bit Below0800 s = s
-machine-alike m n w v new bit From0800 s = s
-machine-alike m n w v new bit (AllOf memory) s = s
+    → (Same InReset w v → m .reset ≡ n .reset) → (part : Part) → Same part w v → Same part (withMachine m w) (withMachine n v)
+machine-alike m n w v new bit reset TheMachine s = new s
+machine-alike m n w v new bit reset Z80Bit s = bit s
+machine-alike m n w v new bit reset InReset s = reset s
+machine-alike m n w v new bit reset Below0800 s = s
+machine-alike m n w v new bit reset From0800 s = s
+machine-alike m n w v new bit reset (AllOf memory) s = s
 
 -- the number that a call answers is that of its refusal
 pub told :
@@ -156,8 +170,8 @@ z80-told m a b private shared =
     told (λ (left : StoredZ80). left .refusal) (refusalZ80 m (length private) (length shared)) _ _ refl
     (either (λ (left : StoredZ80). left .refusal ≡ accepted) (isPrivate a) _ _ (λ _. refl) (λ _. refl))
 
-shadow-told : (p b : ℕ) (shadow : List ℕ) → writeShadow shadow p b .refusal ≡ refusalShadow shadow p
-shadow-told p b shadow = told (λ (left : WrittenShadow). left .refusal) (refusalShadow shadow p) _ _ refl refl
+pub shadow-told : (m : Machine) (p b : ℕ) (shadow : List ℕ) → writeShadow m shadow p b .refusal ≡ refusalShadow m shadow p
+shadow-told m p b shadow = told (λ (left : WrittenShadow). left .refusal) (refusalShadow m shadow p) _ _ refl refl
 
 line-told :
     (m : Machine) (picture table : List ℕ) (r s : ℕ) (line : List ℕ)
@@ -208,7 +222,7 @@ module _ (a b : ℕ) (w v : World) (c : Alike (StoreWithPicture a b) w v) where
 
   same-refusal : refusedWithPicture a w ≡ refusedWithPicture a v
   unfolding hasMemory
-  same-refusal = rw (c .lengths Shared refl, same-screen, same-attribute, same-picture)
+  same-refusal = rw (same-machine, c .lengths Shared refl, same-screen, same-attribute, same-picture)
 
   mended-alike : mendedIn a b w ≡ mendedIn a b v
   mended-alike =
@@ -218,12 +232,10 @@ module _ (a b : ℕ) (w v : World) (c : Alike (StoreWithPicture a b) w v) where
   picture-answers : (r : Bool) → refusedWithPicture a w ≡ r → answer (StoreWithPicture a b) w ≡ answer (StoreWithPicture a b) v
   unfolding hasMemory
   picture-answers true e =
-      rw (e, sym same-refusal ∙ e) (rw (c .lengths Shared refl, same-screen, same-attribute, same-picture))
+      rw (e, sym same-refusal ∙ e) (rw (same-machine, c .lengths Shared refl, same-screen, same-attribute, same-picture))
   picture-answers false e =
       let f = sym same-refusal ∙ e in
-      let goes = accepts (w .machine) (w .bytes Shared) (w .bytes Screen) (w .bytes Attribute) (w .bytes Picture) a b e .1 in
-      let goes′ = accepts (v .machine) (v .bytes Shared) (v .bytes Screen) (v .bytes Attribute) (v .bytes Picture) a b f .1 in
-      rw (e, f, goes, goes′)
+      rw (e, f)
       (ap (λ (l : List ℕ). answered accepted (marksOf (w .bytes Picture) l ∷ [])) mended-alike
       ∙ ap (λ (l : List ℕ). answered accepted (marksOf l (mendedIn a b v) ∷ [])) same-picture)
 
@@ -242,15 +254,21 @@ module _ (a b : ℕ) (w v : World) (c : Alike (StoreWithPicture a b) w v) where
 
 pub sees-only : SeesOnly
 unfolding has hasMemory
-sees-only (Read8088 a) w v c =
-    (rw (c .seen (AllOf Shared) refl, c .seen (AllOf Screen) refl, c .seen (AllOf Attribute) refl), λ part s. s)
+sees-only (Read8088 a) w v c = (
+  rw (
+    c .seen (AllOf Shared) refl,
+    c .seen (AllOf Screen) refl,
+    c .seen (AllOf Attribute) refl,
+    access-by-reset (w .machine) (v .machine) _ a (c .seen InReset refl),
+  ),
+  λ part s. s,
+)
 sees-only (Store8088 a b) w v c =
-    let same : refusal8088 (w .bytes Shared) (w .bytes Screen) (w .bytes Attribute) a
-    ≡ refusal8088 (v .bytes Shared) (v .bytes Screen) (v .bytes Attribute) a =
-    rw (c .lengths Shared refl, c .lengths Screen refl, c .lengths Attribute refl) in (
+    let same =
+    refused-alike a w v (c .seen InReset refl) (c .lengths Shared refl) (c .lengths Screen refl) (c .lengths Attribute refl) in (
       ap (λ (n : ℕ). answered n [])
-          (store-refusal (w .bytes Shared) (w .bytes Screen) (w .bytes Attribute) a b ∙ same
-          ∙ sym (store-refusal (v .bytes Shared) (v .bytes Screen) (v .bytes Attribute) a b)),
+          (store-refusal (w .machine) (w .bytes Shared) (w .bytes Screen) (w .bytes Attribute) a b ∙ same
+          ∙ sym (store-refusal (v .machine) (v .bytes Shared) (v .bytes Screen) (v .bytes Attribute) a b)),
       stores-alike a b w v same,
     )
 sees-only (ReadZ80 a) w v c = (
@@ -272,11 +290,15 @@ sees-only (StoreZ80 a b) w v c =
           ∙ sym (z80-told (v .machine) a b (v .bytes Private) (v .bytes Shared))),
       z80-alike a b w v same,
     )
-sees-only (ReadShadow p) w v c = (rw (c .seen (AllOf Shadow) refl), λ part s. s)
+sees-only (ReadShadow p) w v c =
+    (rw (c .seen (AllOf Shadow) refl, place-by-reset (w .machine) (v .machine) _ p (c .seen InReset refl)), λ part s. s)
 sees-only (WriteShadow p b) w v c =
-    let same : refusalShadow (w .bytes Shadow) p ≡ refusalShadow (v .bytes Shadow) p = rw (c .lengths Shadow refl) in (
-      ap (λ (n : ℕ). answered n []) (shadow-told p b (w .bytes Shadow) ∙ same ∙ sym (shadow-told p b (v .bytes Shadow))),
-      with-alike Shadow _ _ w v (λ e. ap (λ (l : List ℕ). writeShadow l p b .shadow) e) refl,
+    let by-reset = place-by-reset (w .machine) (v .machine) (length (v .bytes Shadow)) p (c .seen InReset refl) in
+    let same : refusalShadow (w .machine) (w .bytes Shadow) p ≡ refusalShadow (v .machine) (v .bytes Shadow) p =
+    rw (c .lengths Shadow refl) by-reset in (
+      ap (λ (n : ℕ). answered n [])
+          (shadow-told (w .machine) p b (w .bytes Shadow) ∙ same ∙ sym (shadow-told (v .machine) p b (v .bytes Shadow))),
+      with-alike Shadow _ _ w v (λ e. rw (e, by-reset)) refl,
     )
 sees-only (WritePort p k) w v c =
     let left = writePort (w .machine) (w .bytes Shadow) (w .bytes Nvm) p k in
@@ -286,11 +308,15 @@ sees-only (WritePort p k) w v c =
     let saved′ = withBytes Nvm (right .nvm) v in (
       ap (λ (l : WrittenPort). answered (l .answer .refusal) []) same,
       λ part s. machine-alike _ _ _ _ (λ _. ap (λ (l : WrittenPort). l .answer .machine) same)
-          (λ _. ap (λ (l : WrittenPort). z80Runs (l .answer .machine)) same) part
+          (λ _. ap (λ (l : WrittenPort). z80Runs (l .answer .machine)) same)
+          (λ _. ap (λ (l : WrittenPort). l .answer .machine .reset) same) part
           (with-alike Shadow _ _ saved saved′ (λ _. ap (λ (l : WrittenPort). l .shadow) same) refl part
           (with-alike Nvm _ _ w v (λ _. ap (λ (l : WrittenPort). l .nvm) same) refl part s)),
     )
-sees-only VerticalTick w v c = (refl, machine-alike _ _ w v (λ e. ap verticalTick e) (λ e. e))
+sees-only VerticalTick w v c = (refl, machine-alike _ _ w v (λ e. ap verticalTick e) (λ e. e) (λ e. e))
+sees-only WatchdogTick w v c =
+    let same = ap watchdogTick (c .seen TheMachine refl) in
+    (refl, machine-alike _ _ w v (λ _. same) (λ _. ap z80Runs same) (λ _. ap (λ (m : Machine). m .reset) same))
 sees-only Draw w v c =
     let m = c .seen TheMachine refl in
     let screen = c .seen (AllOf Screen) refl in

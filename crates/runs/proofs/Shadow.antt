@@ -2,13 +2,14 @@
 use Prim.Native.Nat.{ℕ}
 use mathlib.Core.Path.{_≡_, refl}
 use mathlib.Core.List.{List}
-use mathlib.Core.Bool.{false, not, and-false}
+use mathlib.Core.Bool.{false, and-false}
 use lib.ListN.{length}
 use lib.Dec.{eqb}
+use Rattle.lent.specs.Refusals.{refuses}
 use Rattle.lent.proofs.Tests.{either}
 use Rattle.machine.specs.declared.Machine.{Machine}
 use Rattle.diagnostic.specs.Diagnostic.{WrittenPort, rises, writeDiagnostic}
-use Rattle.ports.specs.Ports.{lengthsNvm, isPort}
+use Rattle.ports.specs.Ports.{refusalPort}
 use Rattle.runs.specs.World.{Nvm, Shadow}
 use Rattle.runs.specs.Shadow.{NothingElse, MovesAll}
 
@@ -20,17 +21,17 @@ not-recalled m shadow nvm code h = rw (h, and-false)
 
 pub nothing-else : NothingElse
 nothing-else w port code h =
-    either Keeps (not (lengthsNvm (length (w .bytes Shadow)) (length (w .bytes Nvm)))) _ _ (λ _. refl)
-    (λ _. either Keeps (not (isPort port)) _ _ (λ _. refl)
+    either Keeps (refuses (refusalPort (w .machine) (length (w .bytes Shadow)) (length (w .bytes Nvm)) port)) _ _ (λ _. refl)
     (λ _. either Keeps (eqb port 0x04) _ _ (λ _. refl)
     (λ _. either Keeps (eqb port 0x0A) _ _ (λ at. not-recalled (w .machine) (w .bytes Shadow) (w .bytes Nvm) code (rw at at h))
-    (λ _. either Keeps (eqb port 0x0C) _ _ (λ _. refl) (λ _. refl)))))
+    (λ _. either Keeps (eqb port 0x0C) _ _ (λ _. refl) (λ _. refl))))
   where
     Keeps : WrittenPort → Type 0
     Keeps left = left .shadow ≡ w .bytes Shadow
 
 pub moves-all : MovesAll
-moves-all w code lent = (
-  λ saves recalls. (rw (lent, saves, recalls), rw (lent, saves, recalls)),
-  λ saves recalls. (rw (lent, saves, recalls), rw (lent, saves)),
+unfolding refusalPort
+moves-all w code lent runs = (
+  λ saves recalls. (rw (lent, runs, saves, recalls), rw (lent, runs, saves, recalls)),
+  λ saves recalls. (rw (lent, runs, saves, recalls), rw (lent, runs, saves)),
 )

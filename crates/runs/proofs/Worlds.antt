@@ -16,7 +16,6 @@ use Rattle.picture.specs.Draw.{chainOf}
 use Rattle.readers.specs.Readers.{firstReader}
 use Rattle.mending.specs.Mending.{mended}
 use Rattle.mending.specs.Store.{refusalWithPicture}
-use Rattle.mending.proofs.Outcome.{accepts}
 use Rattle.runs.specs.World.{Memory, Shared, Private, Screen, Attribute, Glyphs, Nvm, Shadow, Picture, Line, numberOf, isMemory, World, withBytes, Store8088, StoreZ80, StoreWithPicture, after}
 
 memories : List Memory
@@ -110,7 +109,7 @@ stored-length Nowhere byte w one = refl
 
 -- what the stores leave, refused and accepted
 abbrev pub refused8088 : (address : ℕ) → World → Bool
-refused8088 address w = refuses (refusal8088 (w .bytes Shared) (w .bytes Screen) (w .bytes Attribute) address)
+refused8088 address w = refuses (refusal8088 (w .machine) (w .bytes Shared) (w .bytes Screen) (w .bytes Attribute) address)
 
 pub store-refused : (address byte : ℕ) (w : World) → refused8088 address w ≡ true → after (Store8088 address byte) w ≡ w
 store-refused address byte w e =
@@ -156,7 +155,7 @@ mendedIn address byte w =
 
 abbrev pub refusedWithPicture : (address : ℕ) → World → Bool
 refusedWithPicture address w =
-    refuses (refusalWithPicture (w .bytes Shared) (w .bytes Screen) (w .bytes Attribute) (w .bytes Picture) address)
+    refuses (refusalWithPicture (w .machine) (w .bytes Shared) (w .bytes Screen) (w .bytes Attribute) (w .bytes Picture) address)
 
 pub picture-refused :
     (address byte : ℕ) (w : World) → refusedWithPicture address w ≡ true → after (StoreWithPicture address byte) w ≡ w
@@ -169,5 +168,4 @@ pub picture-accepted :
     (address byte : ℕ) (w : World) → refusedWithPicture address w ≡ false
     → after (StoreWithPicture address byte) w ≡ storedIn (seen8088 address) byte (withBytes Picture (mendedIn address byte w) w)
 picture-accepted address byte w e =
-    let goes-on = accepts (w .machine) (w .bytes Shared) (w .bytes Screen) (w .bytes Attribute) (w .bytes Picture) address byte e .1 in
-    rw (e, goes-on) (stored-in (seen8088 address) byte (withBytes Picture (mendedIn address byte w) w))
+    rw e (stored-in (seen8088 address) byte (withBytes Picture (mendedIn address byte w) w))

@@ -5,25 +5,27 @@ use mathlib.Core.List.{List, [], _∷_}
 use mathlib.Core.Bool.{Bool, true, false, not, cond, _&&_, _||_, and-false, true≢false, false≢true}
 use native.Mathlib.Omega.{arith}
 use lib.ListN.{length}
-use lib.Dec.{eqb, leb}
+use lib.Dec.{eqb}
 use borrow.Author.Tests.{eqb-true, ne-eqb, not-true}
 use Rattle.lent.specs.Refusals.{refuses}
 use Rattle.lent.proofs.Tests.{either}
 use Rattle.machine.specs.Settings.{bit, z80Runs}
 use Rattle.machine.specs.declared.Machine.{Machine}
 use Rattle.machine.specs.declared.Written.{Written}
-use Rattle.dc011.specs.Dc011.{dc011Code, writeDc011}
+use Rattle.dc011.specs.Dc011.{writeDc011}
 use Rattle.dc012.specs.Dc012.{writeDc012}
 use Rattle.diagnostic.specs.Diagnostic.{WrittenPort, writtenPort, rises}
-use Rattle.ports.specs.Ports.{lengthsNvm, isPort, watched}
-use Rattle.memories.specs.View8088.{seen8088, refusal8088}
+use Rattle.ports.specs.Ports.{refusalPort, watched}
+use Rattle.memories.specs.View8088.{seen8088}
+use Rattle.memories.proofs.Laws.{access-by-reset}
 use Rattle.chain.proofs.Searching.{neither}
-use Rattle.runs.specs.World.{Memory, Shared, Private, Screen, Attribute, Glyphs, Nvm, Shadow, Picture, Line, isMemory, World, withBytes, Call, Read8088, Store8088, ReadZ80, StoreZ80, ReadShadow, WriteShadow, WritePort, VerticalTick, Draw, StoreWithPicture, GlyphPart, DrawLine, after, answer}
-use Rattle.runs.specs.Reach.{Part, TheMachine, Z80Bit, Below0800, From0800, AllOf, numberOfPart, has, hasMemory, Same, mayChange, Alike}
+use Rattle.runs.specs.World.{Memory, Shared, Private, Screen, Attribute, Glyphs, Nvm, Shadow, Picture, Line, isMemory, World, withBytes, Call, Read8088, Store8088, ReadZ80, StoreZ80, ReadShadow, WriteShadow, WritePort, VerticalTick, WatchdogTick, Draw, StoreWithPicture, GlyphPart, DrawLine, after, answer}
+use Rattle.runs.specs.Reach.{Part, TheMachine, Z80Bit, InReset, Below0800, From0800, AllOf, numberOfPart, has, hasMemory, Same, mayChange, Alike}
 use Rattle.runs.specs.Z80.{onlyParts, onlyMemories, z80Lent, z80Sees, isZ80, ItsTwoCalls, OnlyItsOwn, runsAfter, BitFromCode, CodeHas, Agree, unseenByZ80, Turn, Both, LeftAlone, RightAlone, left, right, answers, SameBit, storesInBoth, SameLengths, SameAnswers, CodesHave, SameBitByCodes}
 use Rattle.runs.proofs.Worlds.{is-memory, mendedIn, refusedWithPicture, picture-refused, picture-accepted}
-use Rattle.runs.proofs.Reach.{same-refl, same-by, changes-only, lengths-stay}
-use Rattle.runs.proofs.Sees.{stored-alike, stores-alike, sees-only}
+use Rattle.runs.proofs.Ports.{dc011-left, watched-held}
+use Rattle.runs.proofs.Reach.{same-refl, same-by, tick-runs, changes-only, lengths-stay}
+use Rattle.runs.proofs.Sees.{refused-alike, stored-alike, stores-alike, sees-only}
 
 pub its-two-calls : ItsTwoCalls
 unfolding onlyParts onlyMemories has hasMemory
@@ -41,6 +43,7 @@ of-z80 P reads stores (ReadShadow p) is = absurd (false≢true is)
 of-z80 P reads stores (WriteShadow p b) is = absurd (false≢true is)
 of-z80 P reads stores (WritePort p k) is = absurd (false≢true is)
 of-z80 P reads stores VerticalTick is = absurd (false≢true is)
+of-z80 P reads stores WatchdogTick is = absurd (false≢true is)
 of-z80 P reads stores Draw is = absurd (false≢true is)
 of-z80 P reads stores (StoreWithPicture a b) is = absurd (false≢true is)
 of-z80 P reads stores (GlyphPart k) is = absurd (false≢true is)
@@ -50,41 +53,16 @@ pub only-its-own : OnlyItsOwn
 only-its-own call w part is h =
     of-z80 (λ (one : Call). Same part (after one w) w) (λ a. same-refl part w) (λ a b. changes-only (StoreZ80 a b) w part h) call is
 
--- the DC011 and the DC012 leave the byte that port 0A holds
-module _ (m : Machine) where
-  abbrev Holds : Written → Type 0
-  Holds written = written .machine .held ≡ m .held
-
-  listed : (test : Bool) (one other : Written) → Holds one → Holds other → Holds (cond test one other)
-  listed test one other h k = either Holds test one other (λ _. h) (λ _. k)
-
-  dc011-holds : (code : ℕ) → Holds (writeDc011 m code)
-  dc011-holds code =
-      listed (not (dc011Code code)) _ _ refl
-      (listed (eqb code 0x00) _ _ refl (listed (eqb code 0x10) _ _ refl (listed (eqb code 0x20) _ _ refl refl)))
-
-  dc012-holds : (code : ℕ) → Holds (writeDc012 m code)
-  dc012-holds code =
-      listed (leb 0x0C code) _ _ refl
-      (listed (leb code 0x03) _ _ refl
-      (listed (leb code 0x07) _ _ refl
-      (listed (eqb code 0x08) _ _ refl (listed (eqb code 0x09) _ _ refl (listed (eqb code 0x0A) _ _ refl refl)))))
-
-  watched-holds : (code : ℕ) (enabled : Bool) → Holds (watched (writeDc012 m code) enabled)
-  watched-holds code enabled =
-      listed (refuses (writeDc012 m code .refusal)) _ _ (dc012-holds code) (dc012-holds code)
-
 pub bit-from-code : BitFromCode
 bit-from-code w port code =
-    either From (not (lengthsNvm (length (w .bytes Shadow)) (length (w .bytes Nvm)))) _ _ (λ _. rw and-false)
-    (λ _. either From (not (isPort port)) _ _ (λ _. rw and-false)
+    either From (refuses (refusalPort m (length (w .bytes Shadow)) (length (w .bytes Nvm)) port)) _ _ (λ h. rw (h, and-false))
     (λ _. either From (eqb port 0x04) _ _
-    (λ is. chip (writeDc011 m code) (ne-eqb port 0x0A (λ e. omega (arith, eqb-true port 0x04 is))) (dc011-holds m code))
+    (λ is. chip (writeDc011 m code) (ne-eqb port 0x0A (λ e. omega (arith, eqb-true port 0x04 is))) (dc011-left m code .held))
     (λ _. either From (eqb port 0x0A) _ _
     (λ is. rw is (either At0A (rises 6 (m .held) code && rises 7 (m .held) code) _ _ (λ _. refl) (λ _. refl)))
     (λ other. either From (eqb port 0x0C) _ _
-    (λ _. chip (watched (writeDc012 m code) true) other (watched-holds m code true))
-    (λ _. chip (watched (writeDc012 m code) false) other (watched-holds m code false))))))
+    (λ _. chip (watched (writeDc012 m code) true) other (watched-held m code true))
+    (λ _. chip (watched (writeDc012 m code) false) other (watched-held m code false)))))
   where
     m : Machine
     m = w .machine
@@ -118,15 +96,16 @@ keeps-the-bit (StoreZ80 a b) w runs h codes = h
 keeps-the-bit (ReadShadow p) w runs h codes = h
 keeps-the-bit (WriteShadow p b) w runs h codes = h
 keeps-the-bit VerticalTick w runs h codes = h
+keeps-the-bit WatchdogTick w runs h codes = tick-runs (w .machine) ∙ h
 keeps-the-bit Draw w runs h codes = h
 keeps-the-bit (GlyphPart k) w runs h codes = h
 keeps-the-bit (DrawLine r s) w runs h codes = h
 
-agree-sym : {w v : World} → Agree w v → Agree v w
+pub agree-sym : {w v : World} → Agree w v → Agree v w
 agree-sym h =
     record { private = sym (h .private); shared-length = sym (h .shared-length); from0800 = sym (h .from0800) }
 
-agree-trans : {u w v : World} → Agree u w → Agree w v → Agree u v
+pub agree-trans : {u w v : World} → Agree u w → Agree w v → Agree u v
 agree-trans g h =
     record {
       private = g .private ∙ h .private;
@@ -144,15 +123,17 @@ unseen call w h =
       from0800 = changes-only call w From0800 (none .1);
     }
 
--- what a store with a picture does to a part goes by the lengths and the address, if the picture does not
+-- what a store with a picture does to a part goes by reset, the lengths and the address, if the picture does not
 pub pictures-alike :
-    (a b : ℕ) (w v : World) → SameLengths w v → (part : Part) → Same part w v
+    (a b : ℕ) (w v : World) → Same InReset w v → SameLengths w v → (part : Part) → Same part w v
     → Same part (withBytes Picture (mendedIn a b w) w) (withBytes Picture (mendedIn a b v) v)
     → Same part (after (StoreWithPicture a b) w) (after (StoreWithPicture a b) v)
-pictures-alike a b w v lengths part same drawn = go (refusedWithPicture a w) refl
+pictures-alike a b w v reset lengths part same drawn = go (refusedWithPicture a w) refl
   where
     alike : refusedWithPicture a w ≡ refusedWithPicture a v
-    alike = rw (lengths Shared, lengths Screen, lengths Attribute, lengths Picture)
+    alike =
+        rw (lengths Shared, lengths Screen, lengths Attribute, lengths Picture)
+        (ap refuses (access-by-reset (w .machine) (v .machine) _ a reset))
 
     go : (r : Bool) → refusedWithPicture a w ≡ r → Same part (after (StoreWithPicture a b) w) (after (StoreWithPicture a b) v)
     go true e = same-by part _ w _ v (picture-refused a b w e) (picture-refused a b v (sym alike ∙ e)) same
@@ -162,13 +143,10 @@ pictures-alike a b w v lengths part same drawn = go (refusedWithPicture a w) ref
 
 -- what a store with no picture does goes by the same
 pub stores-by-length :
-    (a b : ℕ) (w v : World) → SameLengths w v → (part : Part) → Same part w v
+    (a b : ℕ) (w v : World) → Same InReset w v → SameLengths w v → (part : Part) → Same part w v
     → Same part (after (Store8088 a b) w) (after (Store8088 a b) v)
-stores-by-length a b w v lengths =
-    let alike : refusal8088 (w .bytes Shared) (w .bytes Screen) (w .bytes Attribute) a
-    ≡ refusal8088 (v .bytes Shared) (v .bytes Screen) (v .bytes Attribute) a =
-    rw (lengths Shared, lengths Screen, lengths Attribute) in
-    stores-alike a b w v alike
+stores-by-length a b w v reset lengths =
+    stores-alike a b w v (refused-alike a w v reset (lengths Shared) (lengths Screen) (lengths Attribute))
 
 first-of : (one rest : Bool) → one || false ≡ true → one || rest ≡ true
 first-of true rest h = refl
@@ -202,6 +180,7 @@ module _ (w v : World) (same : Agree w v) where
   unfolding has
   sees-same bit TheMachine h = absurd (false≢true h)
   sees-same bit Z80Bit h = bit
+  sees-same bit InReset h = absurd (false≢true h)
   sees-same bit Below0800 h = absurd (false≢true h)
   sees-same bit From0800 h = same .from0800
   sees-same bit (AllOf Private) h = same .private
@@ -218,7 +197,7 @@ module _ (w v : World) (same : Agree w v) where
   unfolding has
   its-bit bit part h = sees-same bit part (first-of (eqb (numberOfPart part) (numberOfPart Z80Bit)) _ h)
 
-  z80 :
+  pub z80 :
       (call : Call) → Same Z80Bit w v → isZ80 call ≡ true
       → (answer call w ≡ answer call v) × Agree (after call w) (after call v)
   z80 call bit is = of-z80 (λ (one : Call). (answer one w ≡ answer one v) × Agree (after one w) (after one v)) reads stores call is
@@ -235,24 +214,26 @@ module _ (w v : World) (same : Agree w v) where
 
   -- a call that the Z80 sees and that is not its own is a store of the 8088
   stores-in-both :
-      (call : Call) → isZ80 call ≡ false → unseenByZ80 call ≡ false → SameLengths w v → Agree (after call w) (after call v)
+      (call : Call) → isZ80 call ≡ false → unseenByZ80 call ≡ false → Same InReset w v → SameLengths w v
+      → Agree (after call w) (after call v)
   unfolding onlyParts onlyMemories has hasMemory
-  stores-in-both (Store8088 a b) is un lengths =
-      after-both (Store8088 a b) (stores-by-length a b w v lengths (AllOf Private) (same .private))
-      (stores-by-length a b w v lengths From0800 (same .from0800))
-  stores-in-both (StoreWithPicture a b) is un lengths =
-      after-both (StoreWithPicture a b) (pictures-alike a b w v lengths (AllOf Private) (same .private) (same .private))
-      (pictures-alike a b w v lengths From0800 (same .from0800) (same .from0800))
-  stores-in-both (ReadZ80 a) is un lengths = absurd (true≢false is)
-  stores-in-both (StoreZ80 a b) is un lengths = absurd (true≢false is)
-  stores-in-both (Read8088 a) is un lengths = absurd (true≢false un)
-  stores-in-both (ReadShadow p) is un lengths = absurd (true≢false un)
-  stores-in-both (WriteShadow p b) is un lengths = absurd (true≢false un)
-  stores-in-both (WritePort p k) is un lengths = absurd (true≢false un)
-  stores-in-both VerticalTick is un lengths = absurd (true≢false un)
-  stores-in-both Draw is un lengths = absurd (true≢false un)
-  stores-in-both (GlyphPart k) is un lengths = absurd (true≢false un)
-  stores-in-both (DrawLine r s) is un lengths = absurd (true≢false un)
+  stores-in-both (Store8088 a b) is un reset lengths =
+      after-both (Store8088 a b) (stores-by-length a b w v reset lengths (AllOf Private) (same .private))
+      (stores-by-length a b w v reset lengths From0800 (same .from0800))
+  stores-in-both (StoreWithPicture a b) is un reset lengths =
+      after-both (StoreWithPicture a b) (pictures-alike a b w v reset lengths (AllOf Private) (same .private) (same .private))
+      (pictures-alike a b w v reset lengths From0800 (same .from0800) (same .from0800))
+  stores-in-both (ReadZ80 a) is un reset lengths = absurd (true≢false is)
+  stores-in-both (StoreZ80 a b) is un reset lengths = absurd (true≢false is)
+  stores-in-both (Read8088 a) is un reset lengths = absurd (true≢false un)
+  stores-in-both (ReadShadow p) is un reset lengths = absurd (true≢false un)
+  stores-in-both (WriteShadow p b) is un reset lengths = absurd (true≢false un)
+  stores-in-both (WritePort p k) is un reset lengths = absurd (true≢false un)
+  stores-in-both VerticalTick is un reset lengths = absurd (true≢false un)
+  stores-in-both WatchdogTick is un reset lengths = absurd (true≢false un)
+  stores-in-both Draw is un reset lengths = absurd (true≢false un)
+  stores-in-both (GlyphPart k) is un reset lengths = absurd (true≢false un)
+  stores-in-both (DrawLine r s) is un reset lengths = absurd (true≢false un)
 
 lengths-after : (call : Call) (w v : World) → SameLengths w v → SameLengths (after call w) (after call v)
 lengths-after call w v lengths memory = lengths-stay call w memory ∙ lengths memory ∙ sym (lengths-stay call v memory)
@@ -260,15 +241,16 @@ lengths-after call w v lengths memory = lengths-stay call w memory ∙ lengths m
 -- one turn of a call that both make
 both-turn :
     (call : Call) (later : Bool) (w v : World) → Agree w v → (isZ80 call ≡ true → Same Z80Bit w v)
+    → (not (isZ80 call || unseenByZ80 call) ≡ true → Same InReset w v)
     → (not (isZ80 call || unseenByZ80 call) || later ≡ true → SameLengths w v) → Agree (after call w) (after call v)
-both-turn call later w v same bit lengths = go (isZ80 call) (unseenByZ80 call) refl refl lengths
+both-turn call later w v same bit reset lengths = go (isZ80 call) (unseenByZ80 call) refl refl reset lengths
   where
     go :
-        (z u : Bool) → isZ80 call ≡ z → unseenByZ80 call ≡ u → (not (z || u) || later ≡ true → SameLengths w v)
-        → Agree (after call w) (after call v)
-    go true u e f g = z80 w v same call (bit e) e .1
-    go false true e f g = agree-trans (unseen call w f) (agree-trans same (agree-sym (unseen call v f)))
-    go false false e f g = stores-in-both w v same call e f (g refl)
+        (z u : Bool) → isZ80 call ≡ z → unseenByZ80 call ≡ u → (not (z || u) ≡ true → Same InReset w v)
+        → (not (z || u) || later ≡ true → SameLengths w v) → Agree (after call w) (after call v)
+    go true u e f r g = z80 w v same call (bit e) e .1
+    go false true e f r g = agree-trans (unseen call w f) (agree-trans same (agree-sym (unseen call v f)))
+    go false false e f r g = stores-in-both w v same call e f (r refl) (g refl)
 
 -- what is asked of all turns is asked of the later ones
 later-lengths : (first later : Bool) {L : Type 0} → (first || later ≡ true → L) → later ≡ true → L
@@ -276,12 +258,12 @@ later-lengths true later lengths h = lengths refl
 later-lengths false later lengths h = lengths h
 
 pub same-answers : SameAnswers
-same-answers [] w v same bits lengths = (refl, same)
-same-answers (Both call ∷ turns) w v same bits lengths =
+same-answers [] w v same bits resets lengths = (refl, same)
+same-answers (Both call ∷ turns) w v same bits resets lengths =
     let first = not (isZ80 call || unseenByZ80 call) in
-    let after-it = both-turn call (storesInBoth turns) w v same (bits .0) lengths in
+    let after-it = both-turn call (storesInBoth turns) w v same (bits .0) (resets .0) lengths in
     let rest =
-    same-answers turns (after call w) (after call v) after-it (bits .1)
+    same-answers turns (after call w) (after call v) after-it (bits .1) (resets .1)
     (λ h. lengths-after call w v (later-lengths first (storesInBoth turns) lengths h)) in
     (heard-same (isZ80 call) refl (rest .0), rest .1)
   where
@@ -292,11 +274,11 @@ same-answers (Both call ∷ turns) w v same bits lengths =
         ≡ cond z (answer call v ∷ answers right turns (after call v)) (answers right turns (after call v))
     heard-same true e later = rw (z80 w v same call (bits .0 e) e .0, later)
     heard-same false e later = later
-same-answers (LeftAlone call h ∷ turns) w v same bits lengths =
-    same-answers turns (after call w) v (agree-trans (unseen call w h) same) (bits .1)
+same-answers (LeftAlone call h ∷ turns) w v same bits resets lengths =
+    same-answers turns (after call w) v (agree-trans (unseen call w h) same) (bits .1) (resets .1)
     (λ g memory. lengths-stay call w memory ∙ lengths g memory)
-same-answers (RightAlone call h ∷ turns) w v same bits lengths =
-    same-answers turns w (after call v) (agree-trans same (agree-sym (unseen call v h))) (bits .1)
+same-answers (RightAlone call h ∷ turns) w v same bits resets lengths =
+    same-answers turns w (after call v) (agree-trans same (agree-sym (unseen call v h))) (bits .1) (resets .1)
     (λ g memory. lengths g memory ∙ sym (lengths-stay call v memory))
 
 pub same-bit-by-codes : SameBitByCodes

@@ -8,7 +8,7 @@ use mathlib.Core.Bool.{Bool, true, not, cond, _&&_, _||_}
 use Rattle.lent.specs.Refusals.{accepted, refuses}
 use Rattle.picture.specs.Picture.{pictureOf}
 use Rattle.picture.specs.Draw.{chainOf}
-use Rattle.runs.specs.World.{Memory, Screen, Attribute, Picture, World, Call, StoreZ80, WritePort, Draw, StoreWithPicture, after, answer}
+use Rattle.runs.specs.World.{Memory, Screen, Attribute, Picture, World, Call, StoreZ80, WritePort, VerticalTick, WatchdogTick, Draw, StoreWithPicture, after, answer}
 use Rattle.runs.specs.Reach.{AllOf, mayChange}
 
 -- in place of a memory a caller may lend another
@@ -53,12 +53,15 @@ abbrev pub inRuns : Step → World → Bool
 inRuns (Made call) w = not (leavesPictureBehind call)
 inRuns (Lending lent call) w = refuses (answer call (lending lent w) .refusal)
 
--- "8088 stores, Z80 stores and port writes" are in the runs, all of them
-abbrev pub TheThreeAreIn : Type 0
-TheThreeAreIn =
+-- "8088 stores, Z80 stores and port writes" are in the runs, all of them, and both ticks. 02, ticket 3: so a run may
+-- come into reset and out of it, and those that are refused by 8 are among its stores and writes
+abbrev pub TheseAreIn : Type 0
+TheseAreIn =
     (address byte port code : ℕ) (w : World)
     → (inRuns (Made (StoreWithPicture address byte)) w ≡ true)
-    × ((inRuns (Made (StoreZ80 address byte)) w ≡ true) × (inRuns (Made (WritePort port code)) w ≡ true))
+    × ((inRuns (Made (StoreZ80 address byte)) w ≡ true)
+    × ((inRuns (Made (WritePort port code)) w ≡ true)
+    × ((inRuns (Made VerticalTick) w ≡ true) × (inRuns (Made WatchdogTick) w ≡ true))))
 
 -- whether two worlds have one column setting
 abbrev pub sameColumns : World → World → Bool

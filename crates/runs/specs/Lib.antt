@@ -5,4 +5,7 @@ pub mod Reach
 pub mod Z80
 pub mod Shadow
 pub mod Kept
+pub mod Stopped
 pub mod Held
+pub mod Reset
+pub mod Watchdog

@@ -10,13 +10,14 @@ use Rattle.memories.specs.View8088.{seen8088}
 use Rattle.memories.specs.ViewZ80.{sharedFrom}
 use Rattle.memories.specs.declared.view8088.Seen.{Seen}
 use Rattle.memories.specs.declared.view8088.Seen.the-variants.{Shared as InShared, Screen as InScreen, Attribute as InAttribute, Nowhere}
-use Rattle.runs.specs.World.{Memory, Shared, Private, Screen, Attribute, Glyphs, Nvm, Shadow, Picture, Line, numberOf, isMemory, World, Call, Read8088, Store8088, ReadZ80, StoreZ80, ReadShadow, WriteShadow, WritePort, VerticalTick, Draw, StoreWithPicture, GlyphPart, DrawLine, after, answer}
+use Rattle.runs.specs.World.{Memory, Shared, Private, Screen, Attribute, Glyphs, Nvm, Shadow, Picture, Line, numberOf, isMemory, World, Call, Read8088, Store8088, ReadZ80, StoreZ80, ReadShadow, WriteShadow, WritePort, VerticalTick, WatchdogTick, Draw, StoreWithPicture, GlyphPart, DrawLine, after, answer}
 
--- a part of the world: the machine, the bit of it by which the Z80 runs, shared memory below 0800 and from there on, or
--- all of a memory
+-- a part of the world: the machine, the bit of it by which the Z80 runs, whether the 8088 is in reset, shared memory
+-- below 0800 and from there on, or all of a memory
 pub data Part : Type 0 where
   TheMachine : Part
   Z80Bit : Part
+  InReset : Part
   Below0800 : Part
   From0800 : Part
   AllOf : Memory → Part
@@ -24,9 +25,10 @@ pub data Part : Type 0 where
 abbrev pub numberOfPart : Part → ℕ
 numberOfPart TheMachine = 0
 numberOfPart Z80Bit = 1
-numberOfPart Below0800 = 2
-numberOfPart From0800 = 3
-numberOfPart (AllOf memory) = 4 + numberOf memory
+numberOfPart InReset = 2
+numberOfPart Below0800 = 3
+numberOfPart From0800 = 4
+numberOfPart (AllOf memory) = 5 + numberOf memory
 
 unfoldable pub has : List Part → Part → Bool
 has [] part = false
@@ -40,6 +42,7 @@ hasMemory (one ∷ memories) memory = isMemory memory one || hasMemory memories 
 abbrev pub Same : Part → (w v : World) → Type 0
 Same TheMachine w v = w .machine ≡ v .machine
 Same Z80Bit w v = z80Runs (w .machine) ≡ z80Runs (v .machine)
+Same InReset w v = w .machine .reset ≡ v .machine .reset
 Same Below0800 w v = take sharedFrom (w .bytes Shared) ≡ take sharedFrom (v .bytes Shared)
 Same From0800 w v = drop sharedFrom (w .bytes Shared) ≡ drop sharedFrom (v .bytes Shared)
 Same (AllOf memory) w v = w .bytes memory ≡ v .bytes memory
@@ -66,17 +69,18 @@ memories8088 = Shared ∷ Screen ∷ Attribute ∷ []
 
 -- the table
 abbrev pub reach : Call → Reach
-reach (Read8088 address) = reaches memories8088 (AllOf Shared ∷ AllOf Screen ∷ AllOf Attribute ∷ []) []
-reach (Store8088 address byte) = reaches memories8088 [] (storedAt (seen8088 address))
+reach (Read8088 address) = reaches memories8088 (InReset ∷ AllOf Shared ∷ AllOf Screen ∷ AllOf Attribute ∷ []) []
+reach (Store8088 address byte) = reaches memories8088 (InReset ∷ []) (storedAt (seen8088 address))
 reach (ReadZ80 address) = reaches (Private ∷ Shared ∷ []) (Z80Bit ∷ AllOf Private ∷ From0800 ∷ []) []
 reach (StoreZ80 address byte) =
     reaches (Private ∷ Shared ∷ []) (Z80Bit ∷ []) (AllOf Private ∷ AllOf Shared ∷ From0800 ∷ [])
-reach (ReadShadow place) = reaches (Shadow ∷ []) (AllOf Shadow ∷ []) []
-reach (WriteShadow place value) = reaches (Shadow ∷ []) [] (AllOf Shadow ∷ [])
+reach (ReadShadow place) = reaches (Shadow ∷ []) (InReset ∷ AllOf Shadow ∷ []) []
+reach (WriteShadow place value) = reaches (Shadow ∷ []) (InReset ∷ []) (AllOf Shadow ∷ [])
 reach (WritePort port code) =
     reaches (Shadow ∷ Nvm ∷ []) (TheMachine ∷ AllOf Shadow ∷ AllOf Nvm ∷ [])
     (TheMachine ∷ Z80Bit ∷ AllOf Shadow ∷ AllOf Nvm ∷ [])
 reach VerticalTick = reaches [] [] (TheMachine ∷ [])
+reach WatchdogTick = reaches [] (TheMachine ∷ []) (TheMachine ∷ InReset ∷ [])
 reach Draw =
     reaches (Screen ∷ Attribute ∷ Picture ∷ []) (TheMachine ∷ AllOf Screen ∷ AllOf Attribute ∷ []) (AllOf Picture ∷ [])
 reach (StoreWithPicture address byte) =

@@ -15,10 +15,12 @@ NothingElse =
     (w : World) (port code : ℕ) → eqb port 0x0A && rises 7 (w .machine .held) code ≡ false
     → after (WritePort port code) w .bytes Shadow ≡ w .bytes Shadow
 
--- "The copies between shadow and NVM move all 256 bytes as they are."
+-- "The copies between shadow and NVM move all 256 bytes as they are." 02, ticket 3: in reset the write is refused, so
+-- there is no copy to speak of
 abbrev pub MovesAll : Type 0
 MovesAll =
     (w : World) (code : ℕ) → lengthsNvm (length (w .bytes Shadow)) (length (w .bytes Nvm)) ≡ true
+    → w .machine .reset ≡ false
     → let new = after (WritePort 0x0A code) w in
     let saves = rises 6 (w .machine .held) code in
     let recalls = rises 7 (w .machine .held) code in

@@ -6,6 +6,7 @@ use lib.Dec.{eqb}
 use Rattle.lent.specs.Refusals.{accepted}
 use Rattle.lent.specs.declared.ByteRead.{ByteRead}
 use Rattle.machine.specs.Power.{verticalTick}
+use Rattle.machine.specs.Watchdog.{watchdogTick}
 use Rattle.machine.specs.declared.Machine.{Machine}
 use Rattle.memories.specs.View8088.{read8088, store8088}
 use Rattle.memories.specs.ViewZ80.{readZ80, storeZ80}
@@ -67,6 +68,7 @@ pub data Call : Type 0 where
   WriteShadow : (place value : ℕ) → Call
   WritePort : (port code : ℕ) → Call
   VerticalTick : Call
+  WatchdogTick : Call
   Draw : Call
   StoreWithPicture : (address byte : ℕ) → Call
   GlyphPart : (code : ℕ) → Call
@@ -98,9 +100,9 @@ leaving answer world = record { answer = answer; world = world }
 
 abbrev pub outcome : Call → World → Outcome
 outcome (Read8088 address) w =
-    leaving (readAnswer (read8088 (w .bytes Shared) (w .bytes Screen) (w .bytes Attribute) address)) w
+    leaving (readAnswer (read8088 (w .machine) (w .bytes Shared) (w .bytes Screen) (w .bytes Attribute) address)) w
 outcome (Store8088 address byte) w =
-    let left = store8088 (w .bytes Shared) (w .bytes Screen) (w .bytes Attribute) address byte in
+    let left = store8088 (w .machine) (w .bytes Shared) (w .bytes Screen) (w .bytes Attribute) address byte in
     leaving (answered (left .refusal) [])
     (withBytes Shared (left .shared) (withBytes Screen (left .screen) (withBytes Attribute (left .attribute) w)))
 outcome (ReadZ80 address) w =
@@ -108,15 +110,16 @@ outcome (ReadZ80 address) w =
 outcome (StoreZ80 address byte) w =
     let left = storeZ80 (w .machine) (w .bytes Private) (w .bytes Shared) address byte in
     leaving (answered (left .refusal) []) (withBytes Private (left .private) (withBytes Shared (left .shared) w))
-outcome (ReadShadow place) w = leaving (readAnswer (readShadow (w .bytes Shadow) place)) w
+outcome (ReadShadow place) w = leaving (readAnswer (readShadow (w .machine) (w .bytes Shadow) place)) w
 outcome (WriteShadow place value) w =
-    let left = writeShadow (w .bytes Shadow) place value in
+    let left = writeShadow (w .machine) (w .bytes Shadow) place value in
     leaving (answered (left .refusal) []) (withBytes Shadow (left .shadow) w)
 outcome (WritePort port code) w =
     let left = writePort (w .machine) (w .bytes Shadow) (w .bytes Nvm) port code in
     leaving (answered (left .answer .refusal) [])
     (withMachine (left .answer .machine) (withBytes Shadow (left .shadow) (withBytes Nvm (left .nvm) w)))
 outcome VerticalTick w = leaving (answered accepted []) (withMachine (verticalTick (w .machine)) w)
+outcome WatchdogTick w = leaving (answered accepted []) (withMachine (watchdogTick (w .machine)) w)
 outcome Draw w =
     let left = draw (w .machine) (w .bytes Screen) (w .bytes Attribute) (w .bytes Picture) in
     leaving (drawnAnswer (left .answer)) (withBytes Picture (left .picture) w)

@@ -1,5 +1,5 @@
--- Document 01, "Lent memory", and document 02, ticket 2: what a Z80 call leaves alone, what a Z80 answer depends on,
--- and what changes whether the Z80 runs. That a Z80 store changes one byte stands in
+-- Document 01, "Lent memory", and document 02, tickets 2 and 3: what a Z80 call leaves alone, what a Z80 answer depends
+-- on, and what changes whether the Z80 runs. That a Z80 store changes one byte stands in
 -- crates/memories/specs/OneByte.antt, and what a held Z80 does in Held.antt.
 use Prim.Native.Nat.{ℕ}
 use mathlib.Core.Path.{_≡_}
@@ -10,7 +10,7 @@ use lib.Dec.{eqb}
 use Rattle.lent.specs.Refusals.{refuses}
 use Rattle.machine.specs.Settings.{bit, z80Runs}
 use Rattle.runs.specs.World.{Memory, Shared, Private, World, Call, ReadZ80, StoreZ80, WritePort, Answer, after, answer}
-use Rattle.runs.specs.Reach.{Part, Z80Bit, From0800, AllOf, has, hasMemory, Same, reach, mayChange}
+use Rattle.runs.specs.Reach.{Part, Z80Bit, InReset, From0800, AllOf, has, hasMemory, Same, reach, mayChange}
 
 -- whether every part, and every memory, of a list is in another
 unfoldable pub onlyParts : (all parts : List Part) → Bool
@@ -128,11 +128,22 @@ SameBit (turn ∷ turns) w v =
     (asks turn ≡ true → Same Z80Bit w v) × SameBit turns (turned left turn w) (turned right turn v)
 
 -- both runs make a call that the Z80 sees and that is no call of its own: a store of the 8088 from 0800 up
+abbrev pub stores : Turn → Bool
+stores (Both call) = not (isZ80 call || unseenByZ80 call)
+stores (LeftAlone call h) = false
+stores (RightAlone call h) = false
+
 abbrev pub storesInBoth : List Turn → Bool
 storesInBoth [] = false
-storesInBoth (Both call ∷ turns) = not (isZ80 call || unseenByZ80 call) || storesInBoth turns
-storesInBoth (LeftAlone call h ∷ turns) = storesInBoth turns
-storesInBoth (RightAlone call h ∷ turns) = storesInBoth turns
+storesInBoth (turn ∷ turns) = stores turn || storesInBoth turns
+
+-- 02, ticket 3: in reset a store of the 8088 is refused. So where both runs make one that the Z80 sees, the 8088 is in
+-- reset in both or in neither; at all other times it may be in reset in the one alone. What is left out: runs in which
+-- both make such a store and it is refused in the one alone, which shows the Z80 different bytes
+abbrev pub SameReset : List Turn → (w v : World) → Type 0
+SameReset [] w v = Unit {0}
+SameReset (turn ∷ turns) w v =
+    (stores turn ≡ true → Same InReset w v) × SameReset turns (turned left turn w) (turned right turn v)
 
 -- every memory is as long in the one as in the other
 abbrev pub SameLengths : World → World → Type 0
@@ -143,7 +154,8 @@ SameLengths w v = (memory : Memory) → length (w .bytes memory) ≡ length (v .
 -- too.
 abbrev pub SameAnswers : Type 0
 SameAnswers =
-    (turns : List Turn) (w v : World) → Agree w v → SameBit turns w v → (storesInBoth turns ≡ true → SameLengths w v)
+    (turns : List Turn) (w v : World) → Agree w v → SameBit turns w v → SameReset turns w v
+    → (storesInBoth turns ≡ true → SameLengths w v)
     → (answers left turns w ≡ answers right turns v) × Agree (turnedAll left turns w) (turnedAll right turns v)
 
 -- So it is enough that both have the same bit at the start, and that each code that either of them writes to 0A,

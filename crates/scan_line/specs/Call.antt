@@ -1,11 +1,11 @@
 -- Document 01, "Dots" and "Numbers of refusal": the scan line call.
 use Prim.Native.Nat.{ℕ}
-use mathlib.Core.List.{List}
+use mathlib.Core.List.{List, [], _∷_}
 use mathlib.Core.Bool.{Bool, not, cond, _&&_}
 use lib.ListN.{length}
 use lib.Dec.{eqb, ltb, leb}
 use Rattle.lent.specs.Lengths.{pictureBytes, glyphBytes, lineBytes}
-use Rattle.lent.specs.Refusals.{accepted, refuses, lengthRefused, placeRefused}
+use Rattle.lent.specs.Refusals.{accepted, refuses, lengthRefused, placeRefused, refusalOf}
 use Rattle.machine.specs.declared.Machine.{Machine}
 use Rattle.chain.specs.Chain.{rows}
 use Rattle.picture.specs.Picture.{recordIn}
@@ -28,12 +28,13 @@ pub record DrawnLine : Type 0 where
 abbrev pub drawnLine : ℕ → List ℕ → DrawnLine
 drawnLine refusal line = record { refusal = refusal; line = line }
 
--- by what the call is refused, in the table's order
+-- by what the call is refused
 abbrev pub refusalLine : (picture table : List ℕ) → (row scan : ℕ) → (line : List ℕ) → ℕ
 refusalLine picture table row scan line =
-    cond (not (lengthsLine (length picture) (length table) (length line))) lengthRefused
-    (cond (not (onTube row scan)) placeRefused
-    accepted)
+    refusalOf
+    ((lengthRefused, not (lengthsLine (length picture) (length table) (length line)))
+    ∷ (placeRefused, not (onTube row scan))
+    ∷ [])
 
 abbrev pub drawLine : Machine → (picture table : List ℕ) → (row scan : ℕ) → (line : List ℕ) → DrawnLine
 drawLine m picture table row scan line =

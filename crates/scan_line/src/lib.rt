@@ -131,11 +131,11 @@ pub fn draw(
     ensures { λ r. ⌜ drawnLine r (now (line .exit))
         ≡ drawLine machine (now (picture .entry)) (now (table .entry)) row scan (now (line .entry)) ⌝ }
 {
-    if !lengths_line(picture.len(), table.len(), line.len()) {
-        return lent::LENGTH;
-    }
-    if !is_on_tube(row, scan) {
-        return lent::PLACE;
+    let lengths = lengths_line(picture.len(), table.len(), line.len());
+    let own = lent::number_if(!is_on_tube(row, scan), lent::PLACE);
+    let refusal = lent::refusal(lengths, lent::ACCEPTED, own);
+    if refusal != lent::ACCEPTED {
+        return refusal;
     }
     let at = row * records::RECORD_BYTES;
     draw_record(

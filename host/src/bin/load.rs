@@ -18,7 +18,8 @@ struct Asked {
 fn help() {
     println!("{USAGE}");
     println!("Makes N calls of a library (1000000 if not said; a first sweep of some thousands is made whole),");
-    println!("chosen by the seed S, and compares each with a model of document 01.");
+    println!("chosen by the seed S, and compares each with a model of documents 01 and 02. Ahead of them come some");
+    println!("millions of ticks of the watchdog's clock, with codes between them; fewer if N is under 1000000.");
     println!("LIBRARY is a librainbow.so, or run: and a command that serves its calls, as host/serve.c does.");
     println!("--against: makes each call of a second library too, and compares it with the first.");
     println!("Exit status: 0 no difference, 1 a difference, whose shortest script is printed, 2 bad arguments.");
@@ -93,6 +94,10 @@ fn print_tally(tally: &Tally, seconds: f64) {
     for number in [1, 7] {
         println!("Z80: refused by {number:<4}{:>9}", tally.z80[number]);
     }
+    let watched = &tally.watched;
+    println!("{:<20}{:>9}", "watchdog: ticks", watched.ticks);
+    println!("{:<20}{:>9}", "resets begun", watched.begun);
+    println!("{:<20}{:>9}", "resets ended", watched.ended);
     let (drawings, last) = (&tally.drawings, ROWS - 1);
     let middle = format!("wild: row 1 to {}", last - 1);
     println!("{:<20}{:>9}", "wild: row 0", drawings[0]);

@@ -102,12 +102,14 @@ impl Lengths {
     }
 }
 
-/// A call with its numbers. The last four are no calls but changes that the caller makes by hand.
+/// A call with its numbers. A watchdog tick is so many calls, one after the other. The last four are no calls but
+/// changes that the caller makes by hand.
 #[derive(Clone, Copy, Debug, PartialEq, Eq)]
 pub enum Call {
     Version,
     PowerUp,
     VerticalTick,
+    WatchdogTick { times: u32 },
     Columns,
     Z80Runs,
     Blanked,
@@ -140,6 +142,7 @@ impl Call {
             Self::Version => "version",
             Self::PowerUp => "power_up",
             Self::VerticalTick => "vertical_tick",
+            Self::WatchdogTick { .. } => "watchdog_tick",
             Self::Columns => "columns",
             Self::Z80Runs => "z80_runs",
             Self::Blanked => "blanked",
@@ -161,6 +164,28 @@ impl Call {
             _ => return None,
         };
         FUNCTIONS.iter().position(|known| *known == name)
+    }
+
+    /// How often it is made.
+    pub fn times(&self) -> u32 {
+        match self {
+            Self::WatchdogTick { times } => *times,
+            _ => 1,
+        }
+    }
+
+    /// Whether it is an access of the 8088, which reset refuses.
+    pub fn by_8088(&self) -> bool {
+        use Call::*;
+        matches!(
+            self,
+            WritePort { .. }
+                | Read8088 { .. }
+                | Store8088 { .. }
+                | ReadShadow { .. }
+                | WriteShadow { .. }
+                | StoreWithPicture { .. }
+        )
     }
 
     /// The buffers that the call is lent.

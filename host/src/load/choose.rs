@@ -3,6 +3,7 @@ use super::aim;
 use super::call::{Call, Lent, Step, WRONG_LENGTHS};
 use super::model::Model;
 use super::sides::Sides;
+use super::watch_runs::{self, Manner, MANNERS};
 use super::world;
 use crate::chain::{PICTURE, ROWS};
 use crate::dots::{SCANS, UNDERLINE_SCAN};
@@ -18,12 +19,15 @@ pub enum Way {
     Any,
     /// Most are the Z80's, with writes to port 0A and what the 8088 does meanwhile.
     Z80,
+    /// Most are ticks of the watchdog's clock and what matters to it.
+    Watchdog(Manner),
 }
 
 pub fn way(chance: &mut Chance) -> Way {
-    match chance.below(8) {
-        0 => Way::Z80,
-        1..=4 => Way::True,
+    match chance.below(16) {
+        0 | 1 => Way::Z80,
+        2 => Way::Watchdog(chance.of(&MANNERS)),
+        3..=9 => Way::True,
         _ => Way::Any,
     }
 }
@@ -32,6 +36,7 @@ pub fn way(chance: &mut Chance) -> Way {
 #[derive(Clone, Copy)]
 enum Choice {
     Plain(Call),
+    Ticks,
     Port,
     Read8088,
     Store8088,
@@ -45,7 +50,7 @@ enum Choice {
     Line,
 }
 
-const CHOICES: [(usize, Choice); 22] = [
+const CHOICES: [(usize, Choice); 23] = [
     (260, Choice::Stored),
     (120, Choice::Port),
     (60, Choice::Read8088),
@@ -62,6 +67,7 @@ const CHOICES: [(usize, Choice); 22] = [
     (28, Choice::Plain(Call::Version)),
     (28, Choice::Plain(Call::PowerUp)),
     (28, Choice::Plain(Call::VerticalTick)),
+    (28, Choice::Ticks),
     (28, Choice::Plain(Call::Columns)),
     (28, Choice::Plain(Call::Z80Runs)),
     (28, Choice::Plain(Call::Blanked)),
@@ -149,9 +155,17 @@ fn by_hand(chance: &mut Chance) -> Call {
 
 /// Now and then a call is lent one or several buffers of other lengths.
 fn lent(chance: &mut Chance, call: Call) -> Step {
+    match chance.below(25) {
+        0 => wrongly_lent(chance, call),
+        _ => call.into(),
+    }
+}
+
+/// A call that is lent one or several buffers of other lengths, if it is lent any.
+pub fn wrongly_lent(chance: &mut Chance, call: Call) -> Step {
     let mut step = Step::from(call);
     let buffers = call.buffers();
-    if buffers.is_empty() || chance.below(25) > 0 {
+    if buffers.is_empty() {
         return step;
     }
     let one = chance.of(buffers);
@@ -165,10 +179,17 @@ fn lent(chance: &mut Chance, call: Call) -> Step {
     step
 }
 
+/// Any call, as often as the list says.
+pub fn any(chance: &mut Chance, model: &Model) -> Call {
+    let choice = choice(chance);
+    call(chance, model, choice)
+}
+
 /// A call of a kind, with its numbers.
 fn call(chance: &mut Chance, model: &Model, choice: Choice) -> Call {
     match choice {
         Choice::Plain(call) => call,
+        Choice::Ticks => watch_runs::ticks(chance, &model.machine),
         Choice::Port => port(chance),
         Choice::Read8088 => Call::Read8088 {
             address: aim::address(chance, model),
@@ -229,9 +250,18 @@ pub fn step(chance: &mut Chance, sides: &Sides, way: Way) -> Step {
     if !true_run && chance.below(60) == 0 {
         return by_hand(chance).into();
     }
-    if way == Way::Z80 && chance.below(4) > 0 {
-        let call = about_the_z80(chance);
-        return lent(chance, call);
+    let machine = &sides.model.machine;
+    match way {
+        Way::Z80 if chance.below(4) > 0 => {
+            let call = about_the_z80(chance);
+            return lent(chance, call);
+        }
+        Way::Watchdog(manner) => return watch_runs::step(chance, &sides.model, manner),
+        // Else a run would be refused most of its calls from the first reset on.
+        _ if machine.reset && chance.below(5) == 0 => {
+            return watch_runs::ticks(chance, machine).into()
+        }
+        _ => {}
     }
     let call = match choice(chance) {
         Choice::Store8088 if true_run => Call::DrawAfresh,

@@ -2,6 +2,7 @@
 use super::call::{Buffer, Call};
 use super::library::Library;
 use super::model::Model;
+use super::seen::mirrored;
 use crate::chain::{wild_rows, PAIRS_AT, PICTURE, PLACES, RECORD, ROWS};
 use crate::machine::Machine;
 use crate::rainbow::{Seen, Wild};
@@ -10,7 +11,7 @@ use crate::rainbow::{Seen, Wild};
 #[derive(Clone, Copy, Debug, PartialEq, Eq)]
 pub struct Fault(pub usize);
 
-pub const FAULTS: [&str; 21] = [
+pub const FAULTS: [&str; 32] = [
     "row 0's link is taken high byte first",
     "row 23 is never marked",
     "the Z80's private memory ends a byte later",
@@ -32,6 +33,17 @@ pub const FAULTS: [&str; 21] = [
     "the Z80 is held ahead of a wrong length: 7, not 1",
     "a held Z80 is refused its reads, but not its stores",
     "a held Z80 stores, and is then refused by 7",
+    "the watchdog's reset begins and ends at the 127th tick",
+    "the watchdog's reset begins and ends at the 129th tick",
+    "the count is kept while the watchdog is disabled",
+    "any accepted code to 0C sets the count to 0",
+    "the end of reset disables the watchdog",
+    "code 09 is accepted in reset, and ends it",
+    "the shadow is read in reset",
+    "an address that the 8088 does not see is refused ahead of its reset: 2, not 8",
+    "the 8088's reset is told ahead of a wrong length: 8, not 1",
+    "a vertical tick is a tick of the watchdog's clock too",
+    "code 08 to 0C sets the count to 0, on both sides",
 ];
 
 impl Fault {
@@ -53,12 +65,18 @@ impl Fault {
                 holding(model, call, model.machine.held >> 1)
             }
             (20, Call::StoreZ80 { .. }) => holding(model, call, RUNS),
+            (27, Call::WritePort { code: 0x09, .. }) => ended_by(model, call),
+            (28, Call::ReadShadow { .. }) => out_of_reset(model, call),
             _ => self.answer(call, model),
         }
     }
 
     fn answer(self, call: &Call, model: &mut Model) -> Seen {
+        let before = model.machine;
         let mut seen = model.right(call);
+        if seen.refusal == 0 && self.changes(call, &before, &mut model.machine) {
+            seen.machine = mirrored(&model.machine);
+        }
         match (self.0, call) {
             (2, Call::StoreWithPicture { .. }) => seen.value &= !(1 << (ROWS - 1)),
             (6, Call::WriteShadow { .. }) if seen.refusal == 5 => model.shadow[0] ^= 1,
@@ -77,9 +95,42 @@ impl Fault {
             (21, Call::StoreZ80 { .. }) if seen.refusal == 7 => {
                 holding(model, call, RUNS);
             }
+            (
+                29,
+                Call::Read8088 { address }
+                | Call::Store8088 { address, .. }
+                | Call::StoreWithPicture { address, .. },
+            ) if seen.refusal == 8 => {
+                let read = Call::Read8088 { address: *address };
+                if out_of_reset(model, &read).refusal == 2 {
+                    seen.refusal = 2;
+                }
+            }
+            (30, _) if call.by_8088() && seen.refusal == 1 && before.reset => seen.refusal = 8,
             _ => {}
         }
         seen
+    }
+
+    /// A fault in what an accepted call makes of the machine; whether it has one.
+    fn changes(self, call: &Call, before: &Machine, after: &mut Machine) -> bool {
+        let turned = before.reset != after.reset;
+        match (self.0, call) {
+            (22, Call::WatchdogTick { .. }) if after.count == 127 => {
+                (after.count, after.reset) = (0, !after.reset)
+            }
+            (23, Call::WatchdogTick { .. }) if turned && before.count == 127 => {
+                (after.count, after.reset) = (128, before.reset)
+            }
+            (24, Call::WatchdogTick { .. } | Call::WritePort { .. }) if !after.watchdog => {
+                after.count = before.count
+            }
+            (25, Call::WritePort { port: 0x0C, .. }) => after.count = 0,
+            (26, Call::WatchdogTick { .. }) if turned && before.reset => after.watchdog = false,
+            (31, Call::VerticalTick) => after.watchdog_tick(),
+            _ => return false,
+        }
+        true
     }
 
     /// Faults of the library's side, and some that both sides have.
@@ -90,6 +141,16 @@ impl Fault {
             (10, Call::Draw) => {
                 picture.content_mut()[PICTURE - 1] = 0x0D;
                 model.picture[PICTURE - 1] = 0x0D;
+            }
+            (
+                32,
+                Call::WritePort {
+                    port: 0x0C,
+                    code: 0x08,
+                },
+            ) => {
+                library.machine.count = 0;
+                model.machine.count = 0;
             }
             _ => {}
         }
@@ -138,6 +199,29 @@ fn holding(model: &mut Model, call: &Call, held: u8) -> Seen {
     let seen = model.right(call);
     model.machine.held = kept;
     seen
+}
+
+/// The call as it is while the 8088 is not in reset.
+fn out_of_reset(model: &mut Model, call: &Call) -> Seen {
+    let kept = model.machine.reset;
+    model.machine.reset = false;
+    let seen = model.right(call);
+    model.machine.reset = kept;
+    seen
+}
+
+/// A write that is accepted in reset and ends it.
+fn ended_by(model: &mut Model, call: &Call) -> Seen {
+    let kept = model.machine;
+    model.machine.reset = false;
+    let seen = model.right(call);
+    match seen.refusal {
+        0 => seen,
+        _ => {
+            model.machine = kept;
+            model.right(call)
+        }
+    }
 }
 
 fn high_byte_first(model: &mut Model) -> Seen {

@@ -88,7 +88,7 @@ impl Library {
         self.buffers[buffer as usize].content()
     }
 
-    /// Makes the call. A machine that comes back is the machine from then on, but for power-up's.
+    /// Makes the call once. A machine that comes back is the machine from then on, but for power-up's.
     pub fn call(&mut self, step: &Step) -> Result<Seen, String> {
         let function = step.call.function().expect("a call of the library");
         let mut given = [0; 2];
@@ -107,7 +107,7 @@ impl Library {
             lent: lent.collect(),
             numbers: given,
         })?;
-        if let Call::VerticalTick | Call::WritePort { .. } = step.call {
+        if let Call::VerticalTick | Call::WatchdogTick { .. } | Call::WritePort { .. } = step.call {
             self.machine = seen.machine;
         }
         Ok(seen)

@@ -1,4 +1,4 @@
-//! Drives a library and the model of document 01 with the same calls, and compares what each answers and every byte
+//! Drives a library and the model of the documents with the same calls, and compares what each answers and every byte
 //! that each was lent.
 mod aim;
 mod call;
@@ -10,6 +10,8 @@ mod seen;
 mod shrink;
 mod sides;
 mod sweep;
+mod watch_runs;
+mod watch_sweep;
 mod words;
 mod world;
 
@@ -19,15 +21,17 @@ pub use sides::Tried;
 
 use crate::chain::ROWS;
 use crate::hard::Chance;
+use crate::machine::Machine;
 use crate::rainbow::{Seen, FUNCTIONS};
 use crate::REFUSALS;
 use call::{Call, Step};
-use sides::Sides;
+use sides::{Sides, Watched};
 use std::thread::spawn;
+use watch_runs::MANNERS;
 use world::World;
 
 /// How many calls there were of each function, how many were answered by each number of refusal, of all and of the
-/// Z80's, and how many drawings named each row.
+/// Z80's, how many drawings named each row, and what the watchdog did.
 #[derive(Default)]
 pub struct Tally {
     pub calls: [u64; FUNCTIONS.len()],
@@ -37,9 +41,11 @@ pub struct Tally {
     pub z80: [u64; REFUSALS + 1],
     /// By the row whose link is wild; the last are those that named none. Refused ones do not count.
     pub drawings: [u64; ROWS + 1],
+    pub watched: Watched,
 }
 
 impl Tally {
+    /// All calls; ticks of the watchdog's clock that were made one after the other count as one.
     pub fn total(&self) -> u64 {
         self.calls.iter().sum()
     }
@@ -68,6 +74,7 @@ impl Tally {
         z80.for_each(|(sum, calls)| *sum += calls);
         let drawings = self.drawings.iter_mut().zip(other.drawings);
         drawings.for_each(|(sum, drawn)| *sum += drawn);
+        self.watched.add(&other.watched);
     }
 }
 
@@ -99,8 +106,10 @@ impl<'a> Run<'a> {
         Ok(())
     }
 
-    fn end(&self) -> Result<(), Script> {
-        self.sides.compare_all().map_err(|_| self.script())
+    fn end(self) -> Result<(), Script> {
+        self.sides.compare_all().map_err(|_| self.script())?;
+        self.tally.watched.add(&self.sides.watched);
+        Ok(())
     }
 
     fn script(&self) -> Script {
@@ -112,10 +121,18 @@ impl<'a> Run<'a> {
 /// As many run at once, each on buffers of its own, which the header allows.
 const THREADS: u64 = 2;
 
-/// Makes the calls of the sweep, and then calls by chance until there have been so many.
+/// Where fewer calls than these are asked for, there is less of the watchdog too: it alone takes some millions.
+const WHOLE: u64 = 1_000_000;
+
+/// The ticks of each long run of the watchdog.
+const RUN_TICKS: u64 = 250_000;
+
+/// Makes the calls of the sweep and those of the watchdog, and then calls by chance until there have been so many.
 pub fn load(calls: u64, seed: u64, tried: Tried) -> Result<Tally, Script> {
-    let mut tally = sweep_all(&mut Chance(seed), tried)?;
+    let mut chance = Chance(seed);
+    let mut tally = sweep_all(sweep::pieces(), &mut chance, tried)?;
     let each = calls.saturating_sub(tally.total()) / THREADS;
+    tally.add(&watchdog(calls.clamp(1, WHOLE), &mut chance, tried)?);
     let threads: Vec<_> = (1..=THREADS)
         .map(|thread| {
             let seed = seed.rotate_left(16 * thread as u32);
@@ -128,9 +145,25 @@ pub fn load(calls: u64, seed: u64, tried: Tried) -> Result<Tally, Script> {
     Ok(tally)
 }
 
-fn sweep_all(chance: &mut Chance, tried: Tried) -> Result<Tally, Script> {
+/// The sweep of the watchdog, and a long run in each manner from power-up.
+fn watchdog(calls: u64, chance: &mut Chance, tried: Tried) -> Result<Tally, Script> {
+    let every = (WHOLE / calls) as usize;
+    let mut tally = sweep_all(watch_sweep::pieces(every), chance, tried)?;
+    for manner in MANNERS {
+        let mut run = Run::new(chance, tried, &mut tally);
+        run.step(Call::SetMachine(Machine::power_up()).into())?;
+        while run.sides.watched.ticks < RUN_TICKS / every as u64 {
+            let step = watch_runs::step(chance, &run.sides.model, manner);
+            run.step(step)?;
+        }
+        run.end()?;
+    }
+    Ok(tally)
+}
+
+fn sweep_all(pieces: Vec<Vec<Step>>, chance: &mut Chance, tried: Tried) -> Result<Tally, Script> {
     let mut tally = Tally::default();
-    for steps in sweep::pieces() {
+    for steps in pieces {
         let mut run = Run::new(chance, tried, &mut tally);
         steps.into_iter().try_for_each(|step| run.step(step))?;
         run.end()?;

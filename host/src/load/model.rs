@@ -70,7 +70,7 @@ impl Model {
         }
     }
 
-    /// Makes the call. Buffers of other lengths are lent as copies, and what they then hold comes back.
+    /// Makes the call once. Buffers of other lengths are lent as copies, and what they then hold comes back.
     pub fn call(&mut self, step: &Step, fault: Fault) -> Seen {
         if step.whole() {
             return fault.call(self, &step.call);
@@ -97,7 +97,7 @@ impl Model {
         }
     }
 
-    /// What document 01 says of the call.
+    /// What the documents say of the call.
     pub fn right(&mut self, call: &Call) -> Seen {
         let machine = self.machine;
         match *call {
@@ -105,6 +105,10 @@ impl Model {
             Call::PowerUp => Seen::machine(0, mirrored(&Machine::power_up())),
             Call::VerticalTick => {
                 self.machine.interrupt = true;
+                Seen::machine(0, mirrored(&self.machine))
+            }
+            Call::WatchdogTick { .. } => {
+                self.machine.watchdog_tick();
                 Seen::machine(0, mirrored(&self.machine))
             }
             Call::Columns => Seen::value(machine.columns),
@@ -134,9 +138,12 @@ impl Model {
                 let drawn = dots::scan_line(&machine, picture, table, row, scan, line);
                 Seen::refusal(refusal(&drawn))
             }
-            Call::ReadShadow { place } => seen(memories::shadow_read(&self.shadow, place)),
+            Call::ReadShadow { place } => {
+                seen(memories::shadow_read(&self.machine, &self.shadow, place))
+            }
             Call::WriteShadow { place, value } => {
-                let written = memories::shadow_write(&mut self.shadow, place, value);
+                let (machine, shadow) = (&self.machine, &mut self.shadow);
+                let written = memories::shadow_write(machine, shadow, place, value);
                 Seen::refusal(refusal(&written))
             }
             _ => self.memory_call(call),
@@ -147,8 +154,11 @@ impl Model {
         let (view, private) = (&mut self.view, &mut self.private);
         let machine = &self.machine;
         match *call {
-            Call::Read8088 { address } => seen(view.read(address)),
-            Call::Store8088 { address, byte } => Seen::refusal(refusal(&view.store(address, byte))),
+            Call::Read8088 { address } => seen(view.read(machine, address)),
+            Call::Store8088 { address, byte } => {
+                let stored = view.store(machine, address, byte);
+                Seen::refusal(refusal(&stored))
+            }
             Call::ReadZ80 { address } => {
                 let read = memories::z80_read(machine, private, &mut view.shared, address);
                 seen(read)
@@ -158,9 +168,8 @@ impl Model {
                 Seen::refusal(refusal(&stored))
             }
             Call::StoreWithPicture { address, byte } => {
-                let columns = machine.columns.into();
                 let picture = &mut self.picture;
-                seen(mending::store(view, picture, columns, address, byte))
+                seen(mending::store(view, picture, machine, address, byte))
             }
             _ => unreachable!("no call: {call:?}"),
         }

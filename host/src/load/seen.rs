@@ -37,6 +37,8 @@ pub fn mirrored(machine: &Machine) -> rainbow::Machine {
         interrupt: machine.interrupt.into(),
         reverse: machine.reverse.into(),
         watchdog: machine.watchdog.into(),
+        count: machine.count,
+        reset: machine.reset.into(),
         held: machine.held,
     }
 }

@@ -49,8 +49,13 @@ impl Trial {
             differs,
         };
         for (at, step) in steps.iter().enumerate() {
+            let ticks = sides.watched.ticks;
             if let Err(differs) = sides.step(step) {
-                return Some(found(&steps[..=at], differs));
+                let mut script = found(&steps[..=at], differs);
+                if let Call::WatchdogTick { times } = &mut script.steps[at].call {
+                    *times = (sides.watched.ticks - ticks) as u32 + 1;
+                }
+                return Some(script);
             }
         }
         let differs = sides.compare_all().err()?;
@@ -127,6 +132,7 @@ fn plainer_steps(step: &Step) -> Vec<Step> {
 
 fn plainer_calls(call: &Call) -> Vec<Call> {
     match *call {
+        Call::WatchdogTick { times } => fewer_ticks(times),
         Call::WritePort { port, .. } => vec![Call::WritePort { port, code: 0 }],
         Call::Store8088 { address, .. } => vec![Call::Store8088 { address, byte: 0 }],
         Call::StoreZ80 { address, .. } => vec![Call::StoreZ80 { address, byte: 0 }],
@@ -144,4 +150,14 @@ fn plainer_calls(call: &Call) -> Vec<Call> {
         Call::SetMachine(_) => vec![Call::SetMachine(Machine::power_up())],
         _ => Vec::new(),
     }
+}
+
+/// The fewest last, since the last that will do is taken.
+fn fewer_ticks(times: u32) -> Vec<Call> {
+    let few = [256, 255, 130, 129, 128, 127, 126, 125, 2, 1];
+    let fewer = [times - 1].into_iter().chain(few);
+    fewer
+        .filter(|fewer| *fewer > 0 && *fewer < times)
+        .map(|times| Call::WatchdogTick { times })
+        .collect()
 }

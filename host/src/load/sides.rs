@@ -8,6 +8,8 @@ use super::words::answered;
 use super::world::{self, World};
 use crate::chain::{self, PICTURE, RECORD};
 use crate::hard::Chance;
+use crate::history::History;
+use crate::machine::Machine;
 use crate::rainbow::{self, Seen};
 
 /// What is tried: a library beside the model, and a second library beside the first if there is one.
@@ -25,8 +27,19 @@ pub struct Sides {
     second: Option<Library>,
     /// The picture has been drawn, and nothing has been done since that demand 3's runs do not hold.
     pub kept: bool,
+    /// What the watchdog must do by the ticks made; there is none after a machine that no run of calls makes.
+    history: Option<History>,
+    pub watched: Watched,
     fault: Fault,
     before: Vec<u8>,
+}
+
+/// How many ticks the watchdog's clock made, and how many resets began and ended at them.
+#[derive(Clone, Copy, Default)]
+pub struct Watched {
+    pub ticks: u64,
+    pub begun: u64,
+    pub ended: u64,
 }
 
 /// What differed.
@@ -45,22 +58,34 @@ impl Sides {
         Self {
             library: Library::new(&model, tried.library),
             second: tried.second.map(|second| Library::new(&model, second)),
+            history: History::of(&model.machine),
             model,
             kept: false,
+            watched: Watched::default(),
             fault: tried.fault,
             before: vec![0; PICTURE],
         }
     }
 
-    /// Makes a call on all sides and compares all that it may have changed.
+    /// Makes a call on all sides, as often as the step says, and compares each time all that it may have changed.
     pub fn step(&mut self, step: &Step) -> Result<Seen, Differs> {
         if step.call.function().is_none() {
             self.by_hand(&step.call);
             return Ok(Seen::default());
         }
+        for _ in 1..step.call.times() {
+            self.once(step)?;
+        }
+        self.once(step)
+    }
+
+    fn once(&mut self, step: &Step) -> Result<Seen, Differs> {
         let columns = self.model.machine.columns;
-        self.before
-            .copy_from_slice(self.library.content(Buffer::Picture));
+        if let Call::StoreWithPicture { .. } = step.call {
+            let picture = self.library.content(Buffer::Picture);
+            self.before.copy_from_slice(picture);
+        }
+        let reset = self.library.machine.reset;
         let mut model = self.model.call(step, self.fault);
         let mut library = self.library.call(step)?;
         self.put_fault(&step.call, [&mut model, &mut library]);
@@ -73,6 +98,10 @@ impl Sides {
         }
         self.beside(step, &library)?;
         self.demands(&step.call, &library)?;
+        self.by_ticks(step, &library)?;
+        if let Call::WatchdogTick { .. } = step.call {
+            self.watched.count(reset, self.library.machine.reset);
+        }
         let accepted = library.refusal == 0;
         self.kept = match step.call {
             Call::Draw if accepted => true,
@@ -154,10 +183,43 @@ impl Sides {
         Ok(())
     }
 
+    /// What document 02 says of the watchdog over a run, by the ticks made and by what was accepted, whatever the model
+    /// says.
+    fn by_ticks(&mut self, step: &Step, seen: &Seen) -> Result<(), Differs> {
+        let history = match &mut self.history {
+            Some(history) => history,
+            None => return Ok(()),
+        };
+        let refused = history.in_reset() && step.call.by_8088() && step.whole();
+        if refused != (seen.refusal == 8) {
+            let (number, not) = (seen.refusal, if refused { "" } else { " not" });
+            return Err(format!(
+                "the refusal is {number}, but by the ticks made it is{not} 8"
+            ));
+        }
+        match step.call {
+            Call::WatchdogTick { .. } => history.tick(),
+            Call::WritePort { port, code } if seen.refusal == 0 => history.written(port, code),
+            _ => {}
+        }
+        let (count, reset) = (history.count(), u8::from(history.in_reset()));
+        let machine = self.library.machine;
+        if (machine.count, machine.reset) != (count, reset) {
+            let wanted = format!("by the ticks made they are {count:X} and {reset}");
+            let [count, reset] = [machine.count, machine.reset];
+            return Err(format!(
+                "count and reset are {count:X} and {reset}, but {wanted}"
+            ));
+        }
+        Ok(())
+    }
+
     fn by_hand(&mut self, call: &Call) {
+        if let Call::SetMachine(machine) = call {
+            return self.set_machine(machine);
+        }
         self.kept = false;
         match *call {
-            Call::SetMachine(machine) => self.model.machine = machine,
             Call::AlterPicture { place, byte } => self.model.picture[place] = byte,
             Call::StrewPicture { seed } => {
                 let mut chance = Chance(seed);
@@ -174,9 +236,33 @@ impl Sides {
         }
         let libraries = [Some(&mut self.library), self.second.as_mut()];
         for library in libraries.into_iter().flatten() {
-            library.machine = mirrored(&self.model.machine);
             let picture = library.buffers[Buffer::Picture as usize].content_mut();
             picture.copy_from_slice(&self.model.picture);
         }
+    }
+
+    fn set_machine(&mut self, machine: &Machine) {
+        self.kept = false;
+        self.model.machine = *machine;
+        self.history = History::of(machine);
+        let libraries = [Some(&mut self.library), self.second.as_mut()];
+        for library in libraries.into_iter().flatten() {
+            library.machine = mirrored(machine);
+        }
+    }
+}
+
+impl Watched {
+    /// A tick, with the reset before it and after it.
+    fn count(&mut self, before: u8, after: u8) {
+        self.ticks += 1;
+        self.begun += u64::from(before < after);
+        self.ended += u64::from(before > after);
+    }
+
+    pub fn add(&mut self, other: &Self) {
+        self.ticks += other.ticks;
+        self.begun += other.begun;
+        self.ended += other.ended;
     }
 }

@@ -18,6 +18,7 @@ pub fn pieces() -> Vec<Vec<Step>> {
         places(),
         lines(),
         marks(),
+        in_reset(),
     ];
     let mut all: Vec<Vec<Step>> = pieces
         .iter()
@@ -147,8 +148,52 @@ fn marks() -> Vec<Call> {
     all.into_iter().flat_map(of_marks).collect()
 }
 
+/// In reset: every access of the 8088, with what 2 to 6 refuse too, and then what goes on, the Z80 held and running.
+fn in_reset() -> Vec<Call> {
+    let mut calls = Vec::new();
+    for held in [0x02, 0x03] {
+        calls.push(Call::SetMachine(resetting(held)));
+        for address in EDGES {
+            let byte = 0x41;
+            calls.push(Call::Read8088 { address });
+            calls.push(Call::Store8088 { address, byte });
+            calls.push(Call::StoreWithPicture { address, byte });
+        }
+        for place in [0, 255, 256, usize::MAX] {
+            calls.push(Call::ReadShadow { place });
+            calls.push(Call::WriteShadow { place, value: 5 });
+        }
+        calls.extend(ports());
+        for address in [0x07FF, 0x0800] {
+            let byte = 0x42;
+            calls.push(Call::StoreZ80 { address, byte });
+            calls.push(Call::ReadZ80 { address });
+        }
+        calls.extend([Call::Draw, Call::DrawAfresh, Call::VerticalTick]);
+        for (row, scan) in [(0, 1), (ROWS, 1), (0, 0)] {
+            calls.push(Call::ScanLine { row, scan });
+        }
+        calls.extend([Call::GlyphPart { code: 0x41 }, Call::PowerUp]);
+        calls.extend([Call::Columns, Call::Z80Runs, Call::Blanked, Call::Graphics]);
+        calls.extend([Call::ScrollLatch, Call::DotsOfLine, Call::Version]);
+        calls.push(Call::WatchdogTick { times: 300 });
+    }
+    calls
+}
+
+/// A machine that is some ticks in reset.
+fn resetting(held: u8) -> Machine {
+    Machine {
+        watchdog: true,
+        count: 5,
+        reset: true,
+        held,
+        ..Machine::power_up()
+    }
+}
+
 /// Every call that is lent buffers, with each of them of each wrong length; those of the Z80 while it is held and while
-/// it runs.
+/// it runs, those of the 8088 while it runs and while it is in reset.
 fn lengths() -> Vec<Step> {
     let (address, byte) = (0xEE000, 0x41);
     let calls = [
@@ -165,9 +210,16 @@ fn lengths() -> Vec<Step> {
         Call::ScanLine { row: 0, scan: 1 },
     ];
     let mut steps = Vec::new();
-    for code in [0x00, 0x01] {
-        steps.push(Call::WritePort { port: 0x0A, code }.into());
-        steps.extend(calls.iter().flat_map(|call| wrong_lengths(*call)));
+    for held in [0x00, 0x01] {
+        let reset = resetting(held);
+        let runs = Machine {
+            reset: false,
+            ..reset
+        };
+        for machine in [runs, reset] {
+            steps.push(Call::SetMachine(machine).into());
+            steps.extend(calls.iter().flat_map(|call| wrong_lengths(*call)));
+        }
     }
     steps
 }

@@ -47,6 +47,9 @@ pub fn words(step: &Step) -> String {
     for (name, number) in numbers(&step.call) {
         text += &format!(" {name} {number:X}");
     }
+    if step.call.times() > 1 {
+        text += &format!(", {:X} times", step.call.times());
+    }
     for buffer in step.call.buffers() {
         let how = match step.lent.of(*buffer) {
             Lent::Whole => continue,

@@ -209,6 +209,11 @@ pub fn machine(chance: &mut Chance) -> Machine {
             interrupt: chance.below(2) == 0,
             reverse: chance.below(2) == 0,
             watchdog: chance.below(2) == 0,
+            count: match chance.below(4) {
+                0 => chance.byte(),
+                _ => chance.of(&[0, 1, 2, 125, 126, 127, 128, 255]),
+            },
+            reset: chance.below(4) == 0,
             held: chance.byte(),
         },
         1 => Machine::power_up(),

@@ -4,7 +4,7 @@ use crate::dots::{GLYPHS, LINE};
 use crate::memories::{ATTRIBUTE, NVM, PRIVATE, SCREEN, SHADOW, SHARED};
 
 /// The forms, in the order that `help` has.
-pub const FORMS: [&str; 28] = [
+pub const FORMS: [&str; 30] = [
     "store HHHHHHHH HH",
     "blind HHHHHHHH HH",
     "read HHHHHHHH",
@@ -12,6 +12,7 @@ pub const FORMS: [&str; 28] = [
     "z80 read HHHH",
     "port HHHH HH",
     "tick",
+    "watch DDDDD",
     "shadow write DDDDD HH",
     "shadow read DDDDD",
     "draw",
@@ -23,6 +24,7 @@ pub const FORMS: [&str; 28] = [
     "power",
     "machine",
     "latch HH",
+    "count DDD D",
     "rows",
     "text",
     "list DDDDD",
@@ -139,6 +141,8 @@ mod tests {
         assert_eq!(call("z80 read 07fF"), Some(vec![0x7FF]));
         assert_eq!(call("shadow read 99999"), Some(vec![99999]));
         assert_eq!(call("shadow read 00001"), Some(vec![1]));
+        assert_eq!(call("watch 128"), Some(vec![128]));
+        assert_eq!(call("watch 99999"), Some(vec![99999]));
         for bad in [
             "store 000000000 0",
             "store 0 000",
@@ -150,6 +154,8 @@ mod tests {
             "shadow read 100000",
             "shadow read 000001",
             "shadow read 1A",
+            "watch 100000",
+            "watch 7F",
             "glyph 041",
         ] {
             assert_eq!(call(bad), None, "{bad}");

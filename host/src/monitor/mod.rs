@@ -73,13 +73,15 @@ mod tests {
     fn refusals_are_told_by_number() {
         let both = "refused 6: bits 6 and 7 both rise";
         assert_eq!(shown::refused("port HHHH HH", 6), both);
-        let other = "refused 8, byte 00: a refusal that the monitor does not know";
-        assert_eq!(shown::refused("read HHHHHHHH", 8), other);
+        let reset = "refused 8, byte 00: the 8088 is in reset";
+        assert_eq!(shown::refused("shadow read DDDDD", 8), reset);
+        let other = "refused 9, byte 00: a refusal that the monitor does not know";
+        assert_eq!(shown::refused("read HHHHHHHH", 9), other);
     }
 
     #[test]
     fn calls_are_answered_in_words() {
-        let lines: [(&str, &str); 14] = [
+        let lines: [(&str, &str); 16] = [
             ("store 5 41", "stored, marks 00000000\n"),
             ("draw", "drawn, bytes read: 81, no wild row named\n"),
             ("store ee000 fF", "stored, marks 00FFFFFF 0 1 2 3"),
@@ -100,6 +102,12 @@ mod tests {
                 "written: 80 columns, 60 Hz, interlace 0, latch 03",
             ),
             ("scroll", "scroll latch: 03\n"),
+            (
+                "count 300 1",
+                "counted: 80 columns, 60 Hz, interlace 0, latch 03, blink 0, interrupt 0, reverse 0, watchdog 1, \
+                 count 44, reset 1,",
+            ),
+            ("read 5", "refused 8, byte 00: the 8088 is in reset\n"),
         ];
         let mut session = Session::power_up();
         for (line, begins) in lines {
@@ -166,7 +174,7 @@ mod tests {
             (
                 "port 0A 01",
                 "written: 80 columns, 60 Hz, interlace 0, latch 00, blink 0, interrupt 0, reverse 0, watchdog 0, \
-                 0A holds 01, z80 runs 1, blanked 1, graphics 0\n",
+                 count 0, reset 0, 0A holds 01, z80 runs 1, blanked 1, graphics 0\n",
             ),
             ("z80 read 0800", "reads 00\n"),
             ("z80 read 07FF", "reads 42\n"),
@@ -175,7 +183,7 @@ mod tests {
             (
                 "power",
                 "power-up: 80 columns, 60 Hz, interlace 0, latch 00, blink 0, interrupt 0, reverse 0, watchdog 0, \
-                 0A holds 00, z80 runs 0, blanked 1, graphics 0\n",
+                 count 0, reset 0, 0A holds 00, z80 runs 0, blanked 1, graphics 0\n",
             ),
             ("z80 read 0800", "refused 7, byte 00: the Z80 is held in reset\n"),
         ];
@@ -183,6 +191,51 @@ mod tests {
         for (line, begins) in lines {
             let answer = String::from_utf8(session.answer(line.as_bytes())).unwrap();
             assert!(answer.starts_with(begins), "{line}: {answer}");
+        }
+    }
+
+    /// 02, ticket 3: "one call advances them by a tick", "reset begins at the 128th tick after the last code 09,
+    /// enabling or end of reset", "Refusals: 8, the 8088 is in reset, after 1, ahead of 2 to 6".
+    #[test]
+    fn an_8088_in_reset_is_refused_by_8() {
+        let told = |word: &str, watchdog, count, reset| {
+            format!(
+                "{word}: 80 columns, 60 Hz, interlace 0, latch 00, blink 0, interrupt 0, reverse 0, \
+                 watchdog {watchdog}, count {count}, reset {reset}, 0A holds 00, z80 runs 0, blanked 1, graphics 0\n"
+            )
+        };
+        let (byte, marks) = ("refused 8, byte 00: ", "refused 8, marks 00000000: ");
+        let reset = "the 8088 is in reset\n".to_string();
+        let lines = [
+            ("watch 200", told("watched", 0, 0, 0)),
+            ("port 0C 00", told("written", 1, 0, 0)),
+            ("watch 0", told("watched", 1, 0, 0)),
+            ("watch 127", told("watched", 1, 127, 0)),
+            ("read F0000", "refused 2, byte 00: ".to_string()),
+            ("watch 1", told("watched", 1, 0, 1)),
+            ("read F0000", format!("{byte}{reset}")),
+            ("store F0000 41", format!("{marks}{reset}")),
+            ("blind 0 41", format!("refused 8: {reset}")),
+            ("shadow read 256", format!("{byte}{reset}")),
+            ("shadow write 0 1", format!("refused 8: {reset}")),
+            ("port 0C 09", format!("refused 8: {reset}")),
+            ("lend shadow 255", "lent\n".to_string()),
+            ("shadow read 256", "refused 1, byte 00: ".to_string()),
+            ("lend shadow 256", "lent\n".to_string()),
+            ("z80 read 0", "refused 7, byte 00: ".to_string()),
+            ("draw", "drawn, bytes read: 81".to_string()),
+            ("line 0 1", "....".to_string()),
+            ("watch 128", told("watched", 1, 0, 0)),
+            ("read 0", "reads 00\n".to_string()),
+            ("port 0C 09", told("written", 1, 0, 0)),
+            ("watch 99999", told("watched", 1, 31, 1)),
+            ("power", told("power-up", 0, 0, 0)),
+            ("watch 100000", "expected watch DDDDD\n".to_string()),
+        ];
+        let mut session = Session::power_up();
+        for (line, begins) in lines {
+            let answer = String::from_utf8(session.answer(line.as_bytes())).unwrap();
+            assert!(answer.starts_with(&begins), "{line}: {answer}");
         }
     }
 

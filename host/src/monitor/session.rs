@@ -127,9 +127,11 @@ impl Session {
         match form.split(" H").next().unwrap_or(form) {
             "store" => self.store(first, byte),
             "blind" => self
-                .with_view(|view, _, _| view.store(first, byte))
+                .with_view(|view, _, machine| view.store(machine, first, byte))
                 .map(stored),
-            "read" => self.with_view(|view, _, _| view.read(first)).map(reads),
+            "read" => self
+                .with_view(|view, _, machine| view.read(machine, first))
+                .map(reads),
             "z80 store" => {
                 let (mut private, mut shared) = (self.taken(PRIVATE), self.taken(SHARED));
                 let machine = &self.machine;
@@ -144,18 +146,29 @@ impl Session {
                 memories::z80_read(machine, &mut private, &mut shared, address).map(reads)
             }
             "port" => self.port(address, byte),
+            "watch DDDDD" => {
+                (0..first).for_each(|_| self.machine.watchdog_tick());
+                Ok(format!("watched: {}", shown::machine(&self.machine)))
+            }
             "shadow write DDDDD" => {
                 let mut shadow = self.taken(SHADOW);
-                let answer = memories::shadow_write(&mut shadow, place, byte);
+                let answer = memories::shadow_write(&self.machine, &mut shadow, place, byte);
                 self.put_back(SHADOW, &shadow);
                 answer.map(|_| "written".to_string())
             }
-            "shadow read DDDDD" => memories::shadow_read(self.lent(SHADOW), place).map(reads),
+            "shadow read DDDDD" => {
+                memories::shadow_read(&self.machine, self.lent(SHADOW), place).map(reads)
+            }
             "line DDDDD DDDDD" => self.line(place, second),
             "marked" => Ok(shown::marked(first, second)),
             "latch" => {
                 self.machine.latch = first as u8;
                 Ok(format!("latched: {}", shown::machine(&self.machine)))
+            }
+            "count DDD D" => {
+                self.machine.count = first as u8;
+                self.machine.reset = second != 0;
+                Ok(format!("counted: {}", shown::machine(&self.machine)))
             }
             _ => {
                 let part = dots::part(self.lent(GLYPHS), first as u8)?;
@@ -175,8 +188,8 @@ impl Session {
     }
 
     fn store(&mut self, address: u32, byte: u8) -> Answer<String> {
-        let marks = self.with_view(|view, picture, columns| {
-            mending::store(view, picture, columns, address, byte)
+        let marks = self.with_view(|view, picture, machine| {
+            mending::store(view, picture, machine, address, byte)
         })?;
         Ok(shown::marks(marks))
     }
@@ -221,7 +234,7 @@ impl Session {
     /// A call of the 8088, on what is lent to it.
     fn with_view<T>(
         &mut self,
-        call: impl FnOnce(&mut View8088, &mut [u8], usize) -> Answer<T>,
+        call: impl FnOnce(&mut View8088, &mut [u8], &Machine) -> Answer<T>,
     ) -> Answer<T> {
         let mut view = View8088 {
             shared: self.taken(SHARED),
@@ -229,7 +242,7 @@ impl Session {
             attribute: self.taken(ATTRIBUTE),
         };
         let mut picture = self.taken(PICTURES);
-        let answer = call(&mut view, &mut picture, self.columns());
+        let answer = call(&mut view, &mut picture, &self.machine);
         self.put_back(SHARED, &view.shared);
         self.put_back(SCREEN, &view.screen);
         self.put_back(ATTRIBUTE, &view.attribute);

@@ -21,6 +21,7 @@ pub fn refused(form: &str, number: u8) -> String {
         5 => "no such row, scan or place",
         6 => "bits 6 and 7 both rise",
         7 => "the Z80 is held in reset",
+        8 => "the 8088 is in reset",
         _ => "a refusal that the monitor does not know",
     };
     format!("refused {number}{beside}: {words}")
@@ -30,7 +31,7 @@ pub fn machine(m: &Machine) -> String {
     let bit = u8::from;
     format!(
         "{} columns, {} Hz, interlace {}, latch {:02X}, blink {}, interrupt {}, reverse {}, watchdog {}, \
-         0A holds {:02X}, z80 runs {}, blanked {}, graphics {}",
+         count {}, reset {}, 0A holds {:02X}, z80 runs {}, blanked {}, graphics {}",
         m.columns,
         m.hertz,
         bit(m.interlace),
@@ -39,6 +40,8 @@ pub fn machine(m: &Machine) -> String {
         bit(m.interrupt),
         bit(m.reverse),
         bit(m.watchdog),
+        m.count,
+        bit(m.reset),
         m.held,
         bit(m.z80_runs()),
         bit(m.blanked()),

@@ -110,7 +110,9 @@ impl Loaded {
             match name {
                 "version" => Seen::value(of!(at, () -> u32)()),
                 "power_up" => Seen::machine(0, of!(at, () -> Machine)()),
-                "vertical_tick" => Seen::machine(0, of!(at, (Machine) -> Machine)(machine)),
+                "vertical_tick" | "watchdog_tick" => {
+                    Seen::machine(0, of!(at, (Machine) -> Machine)(machine))
+                }
                 "columns" | "dots_of_line" => Seen::value(of!(at, (Machine) -> usize)(machine)),
                 "z80_runs" | "blanked" | "graphics" | "scroll_latch" => {
                     Seen::value(of!(at, (Machine) -> u8)(machine))
@@ -139,12 +141,14 @@ unsafe fn lending(
             Seen::machine(written.refusal, written.machine)
         }
         "read_8088" => {
-            let call = of!(at, (In, usize, In, usize, In, usize, u32) -> ByteRead);
-            read(call(a, a_len, b, b_len, c, c_len, m as u32))
+            let call = of!(at, (Machine, In, usize, In, usize, In, usize, u32) -> ByteRead);
+            read(call(machine, a, a_len, b, b_len, c, c_len, m as u32))
         }
         "store_8088" => {
-            let call = of!(at, (Out, usize, Out, usize, Out, usize, u32, u8) -> u8);
-            Seen::refusal(call(a, a_len, b, b_len, c, c_len, m as u32, n as u8))
+            let call = of!(at, (Machine, Out, usize, Out, usize, Out, usize, u32, u8) -> u8);
+            Seen::refusal(call(
+                machine, a, a_len, b, b_len, c, c_len, m as u32, n as u8,
+            ))
         }
         "read_z80" => {
             let call = of!(at, (Machine, In, usize, In, usize, u16) -> ByteRead);
@@ -155,12 +159,12 @@ unsafe fn lending(
             Seen::refusal(call(machine, a, a_len, b, b_len, m as u16, n as u8))
         }
         "read_shadow" => {
-            let call = of!(at, (In, usize, usize) -> ByteRead);
-            read(call(a, a_len, m as usize))
+            let call = of!(at, (Machine, In, usize, usize) -> ByteRead);
+            read(call(machine, a, a_len, m as usize))
         }
         "write_shadow" => {
-            let call = of!(at, (Out, usize, usize, u8) -> u8);
-            Seen::refusal(call(a, a_len, m as usize, n as u8))
+            let call = of!(at, (Machine, Out, usize, usize, u8) -> u8);
+            Seen::refusal(call(machine, a, a_len, m as usize, n as u8))
         }
         "draw" => {
             let call = of!(at, (Machine, In, usize, In, usize, Out, usize) -> Drawn);

@@ -18,14 +18,17 @@ pub struct Machine {
     pub interrupt: u8,
     pub reverse: u8,
     pub watchdog: u8,
+    pub count: u8,
+    pub reset: u8,
     pub held: u8,
 }
 
 /// The functions of the header, without `rainbow_`. host/serve.c has the same numbers.
-pub const FUNCTIONS: [&str; 21] = [
+pub const FUNCTIONS: [&str; 22] = [
     "version",
     "power_up",
     "vertical_tick",
+    "watchdog_tick",
     "columns",
     "z80_runs",
     "blanked",

@@ -57,7 +57,7 @@ impl Process {
             sent.extend(bytes);
         }
         self.to.write_all(&sent)?;
-        let mut answer = [0; 28];
+        let mut answer = [0; 30];
         self.from.read_exact(&mut answer)?;
         for bytes in request.lent.into_iter().flatten() {
             self.from.read_exact(bytes)?;
@@ -71,16 +71,16 @@ impl Process {
             refusal: answer[0],
             value: number(1),
             length: number(9),
-            machine: machine_of(&answer[17..26]),
+            machine: machine_of(&answer[17..28]),
             wild: Wild {
-                there: answer[26],
-                row: answer[27],
+                there: answer[28],
+                row: answer[29],
             },
         })
     }
 }
 
-fn bytes_of(machine: &Machine) -> [u8; 9] {
+fn bytes_of(machine: &Machine) -> [u8; 11] {
     let m = machine;
     [
         m.columns132,
@@ -91,6 +91,8 @@ fn bytes_of(machine: &Machine) -> [u8; 9] {
         m.interrupt,
         m.reverse,
         m.watchdog,
+        m.count,
+        m.reset,
         m.held,
     ]
 }
@@ -105,7 +107,9 @@ fn machine_of(bytes: &[u8]) -> Machine {
         interrupt: bytes[5],
         reverse: bytes[6],
         watchdog: bytes[7],
-        held: bytes[8],
+        count: bytes[8],
+        reset: bytes[9],
+        held: bytes[10],
     }
 }
 

@@ -112,6 +112,15 @@ pub fn script() -> Script {
             }
             script.line("port 0A 00");
         }
+        if by_8088(right) {
+            script.remark("The same while the 8088 is in reset; then at their own lengths.");
+            reset(&mut script);
+            for name in memories {
+                refused(&mut script, name, right, wrong);
+            }
+            script.lines(&[right, wrong]);
+            out_of_reset(&mut script);
+        }
         script.lines(&["sums", "machine"]);
     }
     script.remark("Two lengths that are wrong at once; a shared and a private memory that are lent for each other.");
@@ -139,7 +148,30 @@ pub fn script() -> Script {
         script.lines(&[right, wrong]);
     }
     script.lines(&["sums", "machine"]);
+    script.remark("The same while the 8088 is in reset: its own are refused by 8, and no other.");
+    script.line("port 0A 03");
+    reset(&mut script);
+    for (_, _, right, wrong) in calls(&past) {
+        script.lines(&[right, wrong]);
+    }
+    out_of_reset(&mut script);
+    script.lines(&["sums", "machine"]);
     script
+}
+
+/// Whether a line is one of the 8088's.
+fn by_8088(line: &str) -> bool {
+    let first = line.split(' ').next().unwrap_or_default();
+    ["read", "blind", "store", "port", "shadow"].contains(&first)
+}
+
+/// From a disabled watchdog to the 8088's reset.
+fn reset(script: &mut Script) {
+    script.lines(&["port 0C 00", "watch 128"]);
+}
+
+fn out_of_reset(script: &mut Script) {
+    script.lines(&["watch 128", "port 10C 00"]);
 }
 
 /// A memory lent at three wrong lengths.

@@ -1,24 +1,24 @@
 use native.Mathlib.Omega.{arith}
 use borrow.Author.Tests.{ne-eqb}
 use borrow.Author.Needs.{needs}
-use Rattle.lent.proofs.Tests.{held, failed}
-use Rattle.ports.proofs.Laws.{lentNvm}
+use Rattle.ports.proofs.Laws.{accepted-port, lent-nvm}
 use Rattle.ports.proofs.write_port.Statement.{statement}
 use Rattle.ports.proofs.write_port.Tie as tie
 
-lengths-nvm-requires : tie.Need-lengths-nvm-requires
-lengths-nvm-requires c κs = search needs
+refusal-port-requires : tie.Need-refusal-port-requires
+refusal-port-requires c κs = search needs
 
 returns : tie.Need-returns
-returns c = rw (failed (c .before .lengths-nvm .ensures) (c .if1 .taken))
+returns c =
+    let s = c .before in
+    rw (← s .refusal-port .ensures, ne-eqb (s .refusal-port .result) 0 (λ e. omega arith))
 
 write-dc011-requires : tie.Need-write-dc011-requires
 write-dc011-requires c κs = search needs
 
 write-diagnostic-requires : tie.Need-write-diagnostic-requires
 write-diagnostic-requires c κs =
-    let at = c .before .before .before in
-    omega (arith, lentNvm (held (at .before .lengths-nvm .ensures) (at .if1 .left)))
+    omega (arith, lent-nvm _ _ _ _ (c .before .before .before .before .refusal-port .ensures) (λ e. omega arith))
 
 write-dc012-requires : tie.Need-write-dc012-requires
 write-dc012-requires c κs = search needs
@@ -34,8 +34,12 @@ watched-requires-2 c κs = search needs
 
 returns-2 : tie.Need-returns-2
 returns-2 c =
-    let at = c .before .before in
-    rw (held (at .before .lengths-nvm .ensures) (at .if1 .left), c .before .match .keys1, c .write-dc011 .ensures)
+    let arm = c .before in
+    rw (
+      accepted-port _ _ _ _ (arm .before .before .refusal-port .ensures) (omega arith),
+      arm .match .keys1,
+      c .write-dc011 .ensures,
+    )
 
 same-length : tie.Need-same-length
 same-length c = search needs
@@ -47,15 +51,14 @@ returns-3 : tie.Need-returns-3
 returns-3 c =
     let told = c .before .before .before .before in
     let arm = told .before .before .before in
-    let at = arm .before in
-    rw (held (at .before .lengths-nvm .ensures) (at .if1 .left), arm .match .keys2) (told .write-diagnostic .ensures)
+    rw (accepted-port _ _ _ _ (arm .before .before .refusal-port .ensures) (omega arith), arm .match .keys2)
+    (told .write-diagnostic .ensures)
 
 returns-4 : tie.Need-returns-4
 returns-4 c =
     let arm = c .before .before in
-    let at = arm .before in
     rw (
-      held (at .before .lengths-nvm .ensures) (at .if1 .left),
+      accepted-port _ _ _ _ (arm .before .before .refusal-port .ensures) (omega arith),
       arm .match .keys3,
       c .watched .ensures,
       c .before .write-dc012 .ensures,
@@ -64,31 +67,21 @@ returns-4 c =
 returns-5 : tie.Need-returns-5
 returns-5 c =
     let arm = c .before .before in
-    let at = arm .before in
+    let none = arm .match .rest in
     rw (
-      held (at .before .lengths-nvm .ensures) (at .if1 .left),
-      arm .match .keys4,
-      c .watched2 .ensures,
-      c .before .write-dc0122 .ensures,
-    )
-
-returns-6 : tie.Need-returns-6
-returns-6 c =
-    let none = c .match .rest in
-    let at = c .before in
-    rw (
-      held (at .before .lengths-nvm .ensures) (at .if1 .left),
-      ne-eqb _ _ (none .0 .0 .0 .1),
+      accepted-port _ _ _ _ (arm .before .before .refusal-port .ensures) (omega arith),
       ne-eqb _ _ (none .0 .0 .1),
       ne-eqb _ _ (none .0 .1),
       ne-eqb _ _ (none .1),
+      c .watched2 .ensures,
+      c .before .write-dc0122 .ensures,
     )
 
 pub write-port-spec : {M : Type 1} → statement M
 write-port-spec =
     tie.close
     (tie.spec
-    lengths-nvm-requires
+    refusal-port-requires
     returns
     write-dc011-requires
     write-diagnostic-requires
@@ -101,5 +94,4 @@ write-port-spec =
     same-length-2
     returns-3
     returns-4
-    returns-5
-    returns-6)
+    returns-5)

@@ -1,39 +1,39 @@
 use native.Mathlib.Omega.{arith}
-use borrow.Author.Tests.{eq-eqb, ne-eqb, lt-ltb, le-ltb}
+use borrow.Author.Tests.{ne-eqb}
 use borrow.Author.Needs.{needs}
-use Rattle.shadow.specs.Shadow.{lastPlace}
+use Rattle.shadow.proofs.Laws.{in-shadow, accepted-shadow}
 use Rattle.shadow.proofs.read_shadow.Statement.{statement}
 use Rattle.shadow.proofs.read_shadow.Tie as tie
+
+refusal-shadow-requires : tie.Need-refusal-shadow-requires
+refusal-shadow-requires c κs = search needs
 
 read-refused-requires : tie.Need-read-refused-requires
 read-refused-requires c κs = search needs
 
 returns : tie.Need-returns
-returns c = rw (ne-eqb _ _ (c .before .if1 .taken)) (c .read-refused .ensures)
-
-read-refused-requires-2 : tie.Need-read-refused-requires-2
-read-refused-requires-2 c κs = search needs
-
-returns-2 : tie.Need-returns-2
-returns-2 c = rw (eq-eqb _ _ (c .before .before .if1 .left), lt-ltb lastPlace (c .before .before .before .before .args .place) (omega arith)) (c .read-refused2 .ensures)
+returns c =
+    let s = c .before .before in
+    rw (← s .refusal-shadow .ensures, ne-eqb (s .refusal-shadow .result) 0 (λ e. omega arith)) (c .read-refused .ensures)
 
 shared-slice-read-byte-read : tie.Need-shared-slice-read-byte-read
-shared-slice-read-byte-read c = search needs
+shared-slice-read-byte-read c =
+    omega (arith, in-shadow _ _ _ (c .before .before .refusal-shadow .ensures) (omega arith))
 
 byte-read-requires : tie.Need-byte-read-requires
 byte-read-requires c κs = search needs
 
-returns-3 : tie.Need-returns-3
-returns-3 c = rw (eq-eqb _ _ (c .before .before .before .if1 .left), le-ltb lastPlace (c .before .before .before .before .before .args .place) (omega arith)) (c .byte-read .ensures)
+returns-2 : tie.Need-returns-2
+returns-2 c =
+    rw (accepted-shadow _ _ _ (c .before .before .before .refusal-shadow .ensures) (omega arith)) (c .byte-read .ensures)
 
 pub read-shadow-spec : {M : Type 1} → statement M
 read-shadow-spec =
     tie.close
     (tie.spec
+    refusal-shadow-requires
     read-refused-requires
     returns
-    read-refused-requires-2
-    returns-2
     shared-slice-read-byte-read
     byte-read-requires
-    returns-3)
+    returns-2)

@@ -1,0 +1,29 @@
+use mathlib.Core.Path.{refl}
+use lib.Dec.{eqb}
+use borrow.Author.Needs.{needs}
+use Rattle.lent.specs.Lengths.{shadowBytes}
+use Rattle.lent.specs.Refusals.{inResetRefused}
+use Rattle.lent.proofs.Order.{stopped-first}
+use Rattle.shadow.specs.Shadow.{refusedPlace}
+use Rattle.shadow.proofs.refusal_shadow.Statement.{statement}
+use Rattle.shadow.proofs.refusal_shadow.Tie as tie
+
+number-if-requires : tie.Need-number-if-requires
+number-if-requires c κs = search needs
+
+stop-of-8088-requires : tie.Need-stop-of-8088-requires
+stop-of-8088-requires c κs = search needs
+
+refusal-requires : tie.Need-refusal-requires
+refusal-requires c κs = search needs
+
+returns : tie.Need-returns
+unfolding refusedPlace
+returns c =
+    let own = c .before .before in
+    let args = own .before .args in
+    rw (c .refusal .ensures, c .before .stop-of-8088 .ensures, own .number-if .ensures)
+    (stopped-first (eqb (args .bytes) shadowBytes) inResetRefused (args .machine .reset) _ refl)
+
+pub refusal-shadow-spec : {M : Type 1} → statement M
+refusal-shadow-spec = tie.close (tie.spec number-if-requires stop-of-8088-requires refusal-requires returns)
