@@ -21,6 +21,7 @@ pub data Said : Type 0 where
   Names : (wild : Bool) → (row : ℕ) → Said
   Marked : (row : ℕ) → Said
   Dots : (lit : List ℕ) → Said
+  Addresses : List ℕ → Said
   GlyphScan : ℕ → Said
   Prints : (text : List ℕ) → Said
 

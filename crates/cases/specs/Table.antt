@@ -1,14 +1,14 @@
--- Document 01, "Screens and ports worked out": the cases marked P. Document 02: those of tickets 1 to 3.
+-- Document 01, "Screens and ports worked out": the cases marked P. Document 02: those of tickets 1 to 4.
 use Prim.Native.Nat.{_-_}
-use mathlib.Core.List.{List, [], _∷_, _++_}
+use mathlib.Core.List.{List, [], _∷_, _++_, map}
 use mathlib.Core.Bool.{true, false}
 use lib.ListN.{replicate}
 use Rattle.lent.specs.Lengths.{sharedBytes, screenBytes, attributeBytes, shadowBytes}
 use Rattle.machine.specs.Fields.{withHeld, withCount, withReset}
 use Rattle.machine.specs.Power.{powerUp, verticalTick}
-use Rattle.glyphs.specs.Scans.{glyphScan}
+use Rattle.glyphs.specs.Scans.{scanAddresses, scanAddress, glyphScan}
 use Rattle.ascii.specs.Ascii.{ascii}
-use Rattle.cases.specs.Said.{Case, Private, Shared, Screen, Attribute, Byte, Refused, Interlaced, Recalls, Watch, Row, Start, Count, Reads, Names, Dots, GlyphScan, Prints}
+use Rattle.cases.specs.Said.{Case, Private, Shared, Screen, Attribute, Byte, Refused, Interlaced, Recalls, Watch, Row, Start, Count, Reads, Names, Dots, Addresses, GlyphScan, Prints}
 use Rattle.cases.specs.Screens.{alike, drawnAll, startOfRow, countOfRow, named, emptyRows}
 use Rattle.cases.specs.Memories.{running, storedByZ80, storedShort, readByZ80, storedBy8088}
 use Rattle.cases.specs.Ports.{writtenAll, recalls}
@@ -224,6 +224,12 @@ dots =
     ∷ record {
       gives = GlyphScan (glyphScan 0 7) ∷ Dots (litDots false 0 numbered 7 16) ∷ [];
       says = GlyphScan 9 ∷ Dots (0 ∷ 0 ∷ 0 ∷ 0 ∷ 0 ∷ 0 ∷ 0 ∷ 0 ∷ 1 ∷ 1 ∷ 0 ∷ 0 ∷ 0 ∷ 0 ∷ 1 ∷ 1 ∷ []) ∷ [];
+    }
+    -- 003: "The following table relates the scan number to the scan address": scans 1 to 10 have F, 0, 1, up to 8.
+    -- 02, ticket 4: "each is the scan number plus 14, modulo 16"
+    ∷ record {
+      gives = Addresses (map scanAddress (1 ∷ 2 ∷ 3 ∷ 4 ∷ 5 ∷ 6 ∷ 7 ∷ 8 ∷ 9 ∷ 10 ∷ [])) ∷ [];
+      says = Addresses scanAddresses ∷ [];
     }
     -- 003: 76543210007654321000, bit by bit
     ∷ record { gives = litByBits false 3 20; says = underDigits digits80 }

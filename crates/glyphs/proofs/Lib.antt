@@ -1,2 +1,2 @@
-pub mod Laws
+pub mod Scans
 pub mod Glyphs

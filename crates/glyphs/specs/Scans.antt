@@ -1,5 +1,6 @@
--- Document 01, "Dots": scan numbers, their addresses, and the glyph scan that a row shows.
-use Prim.Native.Nat.{ℕ, _+_, _-_, _/_}
+-- Document 01, "Dots", and document 02, ticket 4: scan numbers, their addresses, and the glyph scan that a row shows.
+use Prim.Native.Nat.{ℕ, _+_, _-_, _/_, _%_, _≤_}
+use mathlib.Core.Path.{_≡_}
 use mathlib.Core.List.{List, [], _∷_}
 use mathlib.Core.Bool.{cond}
 use lib.ListN.{getD}
@@ -16,8 +17,14 @@ lastScan = 10
 unfoldable pub scanAddresses : List ℕ
 scanAddresses = 0xF ∷ 0x0 ∷ 0x1 ∷ 0x2 ∷ 0x3 ∷ 0x4 ∷ 0x5 ∷ 0x6 ∷ 0x7 ∷ 0x8 ∷ []
 
+-- 02, ticket 4: "each is the scan number plus 14, modulo 16."
 unfoldable pub scanAddress : (scan : ℕ) → ℕ
-scanAddress scan = getD scanAddresses (scan - firstScan) 0
+scanAddress scan = (scan + 14) % 16
+
+-- for scans 1 to 10 the formula gives what 01 lists
+abbrev pub AsListed : Type 0
+AsListed =
+    (scan : ℕ) → firstScan ≤ scan → scan ≤ lastScan → scanAddress scan ≡ getD scanAddresses (scan - firstScan) 0
 
 -- "At screen scan s, a top half shows glyph scan s/2 rounded up, a bottom half five more than that."
 abbrev pub halved : (scan : ℕ) → ℕ

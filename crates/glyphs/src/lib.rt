@@ -13,8 +13,6 @@ pub const CODE_BYTES: usize = 16;
 pub const FIRST_SCAN: usize = 1;
 
 pub const LAST_SCAN: usize = 10;
-// The addresses of scan numbers 1 to 10.
-const SCAN_ADDRESSES: [usize; 10] = [0xF, 0x0, 0x1, 0x2, 0x3, 0x4, 0x5, 0x6, 0x7, 0x8];
 
 // The sixteen scan bytes of a code, or no bytes where the table's length is wrong.
 pub fn part(table: &[u8], code: u8) -> &[u8]
@@ -46,13 +44,13 @@ pub fn byte(table: &[u8], code: u8, address: usize) -> u8
     table[code as usize * CODE_BYTES + address]
 }
 
-// The scan address of a scan number.
+// The scan address of a scan number. Scan 1 stands at the end of a code's sixteen bytes, scan 2 at their start.
 pub fn scan_address(scan: usize) -> usize
     requires { ⌜ (firstScan ≤ scan) × (scan ≤ lastScan) ⌝ }
     ensures { λ r. ⌜ r ≡ scanAddress scan ⌝ }
     ensures { λ r. ⌜ r < codeBytes ⌝ }
 {
-    SCAN_ADDRESSES[scan - FIRST_SCAN]
+    (scan + 14) % 16
 }
 
 // The scan of a glyph that a row of a kind shows at a scan of the screen.
