@@ -5,6 +5,7 @@ use Rattle.memories.specs.View8088.{within, lengths8088, seen8088, refusedAcces
 use Rattle.memories.specs.ViewZ80.{lengthsZ80, refusalZ80, isPrivate, seenZ80}
 use Rattle.shadow.specs.Shadow.{refusedPlace}
 use Rattle.ports.specs.Ports.{lengthsNvm, refusalPort}
+use Rattle.chain.specs.First.{firstThat}
 use Rattle.chain.specs.Chain.{byteAt, capacity, firstFF, terminator, link, rowFrom, next, rowAt}
 use Rattle.chain.specs.Reading.{reads, readsTo, from, screenRead, attributeRead}
 use Rattle.chain.specs.Wild.{wildLink, wild}
@@ -13,7 +14,7 @@ use Rattle.picture.specs.Picture.{inOrder, recordIn}
 use Rattle.picture.specs.Wild.{firstWildFrom}
 use Rattle.picture.specs.Draw.{lengthsPicture}
 use Rattle.marks.specs.Marks.{bitSet, marksTo}
-use Rattle.readers.specs.Readers.{among, firstFrom}
+use Rattle.readers.specs.Readers.{among}
 use Rattle.mending.specs.Mending.{sameBytes}
 use Rattle.mending.specs.Store.{lengthsWithPicture}
 use Rattle.glyphs.specs.Glyphs.{glyphByte}
@@ -71,7 +72,7 @@ unfolding within lengths8088 seen8088 refusedAccess lengthsZ80 refusalZ80 isPriv
 reset-out = refl
 
 mended-out : gives mends ≡ says mends
-unfolding byteAt capacity firstFF terminator link rowFrom next rowAt screenRead attributeRead from cellPairs fillPairs recordOf inOrder recordIn lengthsPicture within lengths8088 seen8088 refusedAccess lengthsWithPicture among firstFrom sameBytes bitSet marksTo drawnFrom rowsOf memory zeros markedOf markedFrom marked storedAt mendedRow mends
+unfolding byteAt capacity firstFF terminator link rowFrom next rowAt screenRead attributeRead from cellPairs fillPairs recordOf inOrder recordIn lengthsPicture within lengths8088 seen8088 refusedAccess lengthsWithPicture among firstThat sameBytes bitSet marksTo drawnFrom rowsOf memory zeros markedOf markedFrom marked storedAt mendedRow mends
 mended-out = refl
 
 shown-out : gives dots ≡ says dots

@@ -1,5 +1,6 @@
 pub mod Laws
 pub mod Reading
 pub mod Wild
+pub mod First
 pub mod Alike
 pub mod Searching

@@ -6,11 +6,12 @@ use native.Mathlib.Numerals.{add-one}
 use native.Mathlib.Omega.{arith}
 use Rattle.memories.specs.declared.view8088.Seen.{Seen}
 use Rattle.chain.specs.Chain.{Chain, first, rows, rowAt}
+use Rattle.chain.specs.First.{firstThat}
 use Rattle.chain.specs.Inner.{rowAhead, aheadOf}
 use Rattle.chain.specs.declared.Ahead.{Ahead}
 use Rattle.chain.specs.declared.Ahead.the-variants.{Row}
 use Rattle.chain.proofs.Laws.{ahead-leads}
-use Rattle.readers.specs.Readers.{rowReads, firstFrom, firstReader}
+use Rattle.readers.specs.Readers.{rowReads, firstReader}
 use Rattle.readers.specs.Inner.{onScreen, passed, Found}
 use Rattle.readers.specs.declared.Passed.{Passed}
 use Rattle.readers.proofs.Readers.{none-off-screen}
@@ -18,7 +19,7 @@ use Rattle.readers.proofs.Readers.{none-off-screen}
 pub record Seeking (c : Chain) (seen : Seen) (ahead : Ahead) (row : ℕ) : Type 0 where
   pub within : row ≤ rows
   pub comes : row < rows → ahead ≡ aheadOf c row
-  pub search-left : firstReader c seen ≡ firstFrom c seen row (rows - row)
+  pub search-left : firstReader c seen ≡ firstThat (λ r. rowReads c seen (rowAt c r)) row (rows - row)
 
 pub seek-begins : (c : Chain) (seen : Seen) → Seeking c seen (Row first) 0
 unfolding aheadOf
@@ -26,7 +27,7 @@ seek-begins c seen = record { within = omega arith; comes = λ h. refl; search-l
 
 pub none-found : (c : Chain) (seen : Seen) (ahead : Ahead) → onScreen seen ≡ false → Found c seen (record { row = rows; ahead = ahead })
 none-found c seen ahead off =
-    record { first = sym (none-off-screen c seen off 0 rows); comes = λ h. absurd (omega arith) }
+    record { first = sym (none-off-screen c seen off); comes = λ h. absurd (omega arith) }
 
 module _ {c : Chain} {seen : Seen} {ahead : Ahead} {row : ℕ} (s : Seeking c seen ahead row) where
   module _ (more : row < rows) {one : Passed} (e : one ≡ passed c seen ahead) where
@@ -40,12 +41,12 @@ module _ {c : Chain} {seen : Seen} {ahead : Ahead} {row : ℕ} (s : Seeking c se
     read = rw (e, is-row)
 
     pub seek-ends : one .reads ≡ true → Found c seen (record { row = row; ahead = ahead })
-    unfolding firstFrom
+    unfolding firstThat
     seek-ends h =
         record { first = sym (s .search-left ∙ rw (left, read, h)); comes = s .comes }
 
     pub seek-goes-on : one .reads ≡ false → Seeking c seen (one .next) (row + 1)
-    unfolding firstFrom aheadOf
+    unfolding firstThat aheadOf
     seek-goes-on h =
         record {
           within = omega arith;
@@ -54,7 +55,7 @@ module _ {c : Chain} {seen : Seen} {ahead : Ahead} {row : ℕ} (s : Seeking c se
         }
 
   pub seek-fails : rows ≤ row → Found c seen (record { row = row; ahead = ahead })
-  unfolding firstFrom
+  unfolding firstThat
   seek-fails all =
       let none : rows - row ≡ 0 = omega arith in
       record { first = sym (s .search-left ∙ rw none); comes = s .comes }

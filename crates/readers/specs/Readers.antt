@@ -1,5 +1,5 @@
 -- Document 01, "The picture": "the first row that reads the stored byte".
-use Prim.Native.Nat.{ℕ, zero, suc, _+_, _≤_, _<_}
+use Prim.Native.Nat.{ℕ, _≤_, _<_}
 use mathlib.Core.Path.{_≡_}
 use mathlib.Core.List.{List, [], _∷_}
 use mathlib.Core.Bool.{Bool, true, false, cond}
@@ -7,6 +7,7 @@ use lib.Dec.{eqb}
 use Rattle.memories.specs.declared.view8088.Seen.{Seen}
 use Rattle.memories.specs.declared.view8088.Seen.the-variants.{Shared, Screen, Attribute, Nowhere}
 use Rattle.chain.specs.Chain.{Chain, Row, rows, rowAt}
+use Rattle.chain.specs.First.{firstThat}
 use Rattle.chain.specs.Reading.{screenRead, attributeRead}
 
 -- whether a place is one of these
@@ -26,16 +27,9 @@ readsByte Nowhere screen attribute = false
 abbrev pub rowReads : Chain → Seen → Row → Bool
 rowReads c seen row = readsByte seen (screenRead c row) (attributeRead c row)
 
--- "the first row that reads the stored byte": of `more` rows from `row` on; where none of them does, the number after
--- theirs
-unfoldable pub firstFrom : Chain → Seen → (row more : ℕ) → ℕ
-firstFrom c seen row zero = row
-firstFrom c seen row (suc more) =
-    let later = firstFrom c seen (row + 1) more in
-    cond (rowReads c seen (rowAt c row)) row later
-
+-- "the first row that reads the stored byte"; where none does, the number after the last
 abbrev pub firstReader : Chain → Seen → ℕ
-firstReader c seen = firstFrom c seen 0 rows
+firstReader c seen = firstThat (λ row. rowReads c seen (rowAt c row)) 0 rows
 
 -- the first reader reads the byte, and no row ahead of it does; it is one of the rows, or no row reads the byte
 abbrev pub IsFirst : Type 0

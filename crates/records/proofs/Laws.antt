@@ -8,25 +8,35 @@ use lib.Seq.{take-suc-set, drop-set-add}
 use Rattle.records.specs.Record.{headBytes}
 use Rattle.records.specs.Inner.{pairsOf}
 
--- a pair is stored after the pairs before it
+-- two bytes are stored after the pairs of bytes before them
+pub two-stored :
+    (l : List ℕ) (k a b : ℕ) → 2 * k + 1 < length l
+    → take (2 * (k + 1)) (set (set l (2 * k) a) (2 * k + 1) b) ≡ take (2 * k) l ++ (a ∷ b ∷ [])
+two-stored l k a b h =
+    let two : 2 * (k + 1) ≡ suc (suc (2 * k)) = omega arith in
+    let second : 2 * k + 1 ≡ suc (2 * k) = omega arith in
+    let odd : suc (2 * k) < length (set l (2 * k) a) = simp length-set (omega arith) in
+    rw (
+      two,
+      second,
+      take-suc-set (set l (2 * k) a) (suc (2 * k)) b odd,
+      take-suc-set l (2 * k) a (omega arith),
+    )
+    (append-assoc (take (2 * k) l) (a ∷ []) (b ∷ []))
+
+-- and so a pair of a record
 pub pair-stored :
     (l : List ℕ) (k a b : ℕ) → headBytes + 2 * k + 1 < length l
     → take (2 * (k + 1)) (pairsOf (set (set l (headBytes + 2 * k) a) (headBytes + 2 * k + 1) b))
     ≡ take (2 * k) (pairsOf l) ++ (a ∷ b ∷ [])
 pair-stored l k a b h =
-    let two : 2 * (k + 1) ≡ suc (suc (2 * k)) = omega arith in
-    let second : headBytes + 2 * k + 1 ≡ headBytes + suc (2 * k) = omega arith in
-    let odd : suc (2 * k) < length (set (pairsOf l) (2 * k) a) = simp (length-set, length-drop) (omega arith) in
-    let even : 2 * k < length (pairsOf l) = simp length-drop (omega arith) in
+    let second : headBytes + 2 * k + 1 ≡ headBytes + (2 * k + 1) = omega arith in
     rw (
-      two,
       second,
-      drop-set-add headBytes (set l (headBytes + 2 * k) a) (suc (2 * k)) b,
+      drop-set-add headBytes (set l (headBytes + 2 * k) a) (2 * k + 1) b,
       drop-set-add headBytes l (2 * k) a,
-      take-suc-set (set (pairsOf l) (2 * k) a) (suc (2 * k)) b odd,
-      take-suc-set (pairsOf l) (2 * k) a even,
     )
-    (append-assoc (take (2 * k) (pairsOf l)) (a ∷ []) (b ∷ []))
+    (two-stored (pairsOf l) k a b (simp length-drop (omega arith)))
 
 -- the header is stored ahead of the rest
 pub head-stored :

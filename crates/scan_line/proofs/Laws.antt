@@ -1,13 +1,11 @@
 -- Laws about the cells of a line: together they have the dots that a line has.
 use Prim.Native.Nat.{ℕ, _*_, _≤_, _<_}
 use mathlib.Core.Path.{_≡_, refl}
-use mathlib.Core.Bool.{Bool, true, false, not, cond, _&&_, and-eq-true-iff}
+use mathlib.Core.Bool.{Bool, true, false, _&&_, and-eq-true-iff}
 use native.Mathlib.Omega.{arith}
 use lib.Dec.{ltb, leb}
 use borrow.Author.Tests.{ltb-true, leb-true}
 use Rattle.lent.specs.Lengths.{pictureBytes, glyphBytes, lineBytes}
-use Rattle.lent.specs.Refusals.{accepted, lengthRefused, placeRefused}
-use Rattle.lent.specs.Inner.{winner}
 use Rattle.lent.proofs.Tests.{three-equal}
 use Rattle.machine.specs.Settings.{columns}
 use Rattle.machine.specs.declared.Machine.{Machine}
@@ -52,17 +50,3 @@ placed {row} {scan} e =
     let a = and-eq-true-iff (ltb row rows) (leb firstScan scan && leb scan lastScan) .0 e in
     let b = and-eq-true-iff (leb firstScan scan) (leb scan lastScan) .0 (a .1) in
     (ltb-true row rows (a .0), (leb-true firstScan scan (b .0), leb-true scan lastScan (b .1)))
-
--- the number that the code makes of its two tests
-pub told :
-    {lengths right on place : Bool} {own answer : ℕ} → lengths ≡ right → on ≡ place → own ≡ cond (not on) placeRefused accepted
-    → answer ≡ winner lengths accepted own → answer ≡ cond (not right) lengthRefused (cond (not place) placeRefused accepted)
-told e f g h = rw (h, g, e, f) refl
-
--- both tests hold where the call is accepted
-pub passed :
-    (lengths on : Bool) → cond (not lengths) lengthRefused (cond (not on) placeRefused accepted) ≡ accepted
-    → (lengths ≡ true) × (on ≡ true)
-passed true true h = (refl, refl)
-passed true false h = absurd (omega (arith, h))
-passed false on h = absurd (omega (arith, h))

@@ -5,30 +5,6 @@ use Rattle.ascii.proofs.Laws.{_then_}
 use Rattle.ascii.proofs.put_decimal.Statement.{statement}
 use Rattle.ascii.proofs.put_decimal.Tie as tie
 
-put-reached-requires : tie.Need-put-reached-requires
-put-reached-requires c κs = search needs
-
-put-reached-requires-2 : tie.Need-put-reached-requires-2
-put-reached-requires-2 c κs = search needs
-
-put-reached-requires-3 : tie.Need-put-reached-requires-3
-put-reached-requires-3 c κs = search needs
-
-put-reached-requires-4 : tie.Need-put-reached-requires-4
-put-reached-requires-4 c κs = search needs
-
-cast-digit : tie.Need-cast-digit
-cast-digit c = search needs
-
-digit-requires : tie.Need-digit-requires
-digit-requires c κs = search needs
-
-put-byte-requires : tie.Need-put-byte-requires
-put-byte-requires c κs = search needs
-
-same-length : tie.Need-same-length
-same-length c = search needs
-
 returns : tie.Need-returns
 unfolding decimal
 returns c =
@@ -47,12 +23,12 @@ pub put-decimal-spec : {M : Type 1} → statement M
 put-decimal-spec =
     tie.close
     (tie.spec
-    put-reached-requires
-    put-reached-requires-2
-    put-reached-requires-3
-    put-reached-requires-4
-    cast-digit
-    digit-requires
-    put-byte-requires
-    same-length
+    (λ c κs. search needs)
+    (λ c κs. search needs)
+    (λ c κs. search needs)
+    (λ c κs. search needs)
+    (λ c. search needs)
+    (λ c κs. search needs)
+    (λ c κs. search needs)
+    (λ c. search needs)
     returns)

@@ -10,21 +10,6 @@ returns : tie.Need-returns
 unfolding reached
 returns c = (rw (lt-ltb _ _ (c .if1 .taken)) put-none, omega arith)
 
-div-digit : tie.Need-div-digit
-div-digit c = search needs
-
-cast-digit : tie.Need-cast-digit
-cast-digit c = search needs
-
-digit-requires : tie.Need-digit-requires
-digit-requires c κs = search needs
-
-put-byte-requires : tie.Need-put-byte-requires
-put-byte-requires c κs = search needs
-
-same-length : tie.Need-same-length
-same-length c = search needs
-
 returns-2 : tie.Need-returns-2
 unfolding reached
 returns-2 c =
@@ -37,4 +22,4 @@ returns-2 c =
 pub put-reached-spec : {M : Type 1} → statement M
 put-reached-spec =
     tie.close
-    (tie.spec returns div-digit cast-digit digit-requires put-byte-requires same-length returns-2)
+    (tie.spec returns (λ c. search needs) (λ c. search needs) (λ c κs. search needs) (λ c κs. search needs) (λ c. search needs) returns-2)

@@ -5,9 +5,6 @@ use Rattle.chain.specs.Chain.{capacity}
 use Rattle.chain.proofs.capacity.Statement.{statement}
 use Rattle.chain.proofs.capacity.Tie as tie
 
-is-wide-requires : tie.Need-is-wide-requires
-is-wide-requires c κs = search needs
-
 returns : tie.Need-returns
 unfolding capacity
 returns c = (rw (sym (c .before .is-wide .ensures) ∙ c .if1 .taken), omega arith)
@@ -17,4 +14,4 @@ unfolding capacity
 returns-2 c = (rw (sym (c .before .is-wide .ensures) ∙ c .if1 .left), omega arith)
 
 pub capacity-spec : {M : Type 1} → statement M
-capacity-spec = tie.close (tie.spec is-wide-requires returns returns-2)
+capacity-spec = tie.close (tie.spec (λ c κs. search needs) returns returns-2)

@@ -12,26 +12,11 @@ Inv-loop screen start capacity cells₀ cells = Sought screen start (capacity + 
 abbrev μ-loop : tie.MeasureT-loop
 μ-loop screen start capacity cells₀ cells = capacity + 1 - cells
 
-pass-together-requires : tie.Need-pass-together-requires Inv-loop μ-loop
-pass-together-requires c κs = search needs
-
 loop-holds : tie.Need-loop-holds Inv-loop μ-loop
 loop-holds c = c .pass-together .ensures
 
-add-byte-at : tie.Need-add-byte-at Inv-loop μ-loop
-add-byte-at c = search needs
-
-byte-at-requires : tie.Need-byte-at-requires Inv-loop μ-loop
-byte-at-requires c κs = search needs
-
 returns : tie.Need-returns Inv-loop μ-loop
 returns c = sought-found (c .before .before .before .loop .inv) (c .before .byte-at .ensures) (omega arith) (c .if1 .taken)
-
-add-cells : tie.Need-add-cells Inv-loop μ-loop
-add-cells c = search needs
-
-loop-less : tie.Need-loop-less Inv-loop μ-loop
-loop-less c = search needs
 
 loop-again : tie.Need-loop-again Inv-loop μ-loop
 loop-again c = sought-on (c .before .before .before .loop .inv) (c .before .byte-at .ensures) (omega arith) (c .if1 .left)
@@ -45,12 +30,12 @@ find-terminator-spec =
     (tie.spec
     Inv-loop
     μ-loop
-    pass-together-requires
+    (λ c κs. search needs)
     loop-holds
-    add-byte-at
-    byte-at-requires
+    (λ c. search needs)
+    (λ c κs. search needs)
     returns
-    add-cells
-    loop-less
+    (λ c. search needs)
+    (λ c. search needs)
     loop-again
     returns-2)

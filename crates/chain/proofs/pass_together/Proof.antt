@@ -13,41 +13,11 @@ Inv-loop screen start capacity room cells₀ cells = Sought screen start (capaci
 abbrev μ-loop : tie.MeasureT-loop
 μ-loop screen start capacity room cells₀ cells = room - cells
 
-before-the-end-requires : tie.Need-before-the-end-requires Inv-loop μ-loop
-before-the-end-requires c κs = search needs
-
 loop-holds : tie.Need-loop-holds Inv-loop μ-loop
 loop-holds c = none-sought _ _ _
 
-add-loop : tie.Need-add-loop Inv-loop μ-loop
-add-loop c = search needs
-
-add-at : tie.Need-add-at Inv-loop μ-loop
-add-at c = search needs
-
-add-has-terminator : tie.Need-add-has-terminator Inv-loop μ-loop
-add-has-terminator c = search needs
-
-sub-has-terminator : tie.Need-sub-has-terminator Inv-loop μ-loop
-sub-has-terminator c = search needs
-
-part-has-terminator-start : tie.Need-part-has-terminator-start Inv-loop μ-loop
-part-has-terminator-start c = search needs
-
-part-has-terminator-end : tie.Need-part-has-terminator-end Inv-loop μ-loop
-part-has-terminator-end c = search needs
-
-has-terminator-requires : tie.Need-has-terminator-requires Inv-loop μ-loop
-has-terminator-requires c κs = search needs
-
 returns : tie.Need-returns Inv-loop μ-loop
 returns c = c .before .before .before .before .loop .inv
-
-add-cells : tie.Need-add-cells Inv-loop μ-loop
-add-cells c = search needs
-
-loop-less : tie.Need-loop-less Inv-loop μ-loop
-loop-less c = search needs
 
 loop-again : tie.Need-loop-again Inv-loop μ-loop
 loop-again c =
@@ -66,17 +36,17 @@ pass-together-spec =
     (tie.spec
     Inv-loop
     μ-loop
-    before-the-end-requires
+    (λ c κs. search needs)
     loop-holds
-    add-loop
-    add-at
-    add-has-terminator
-    sub-has-terminator
-    part-has-terminator-start
-    part-has-terminator-end
-    has-terminator-requires
+    (λ c. search needs)
+    (λ c. search needs)
+    (λ c. search needs)
+    (λ c. search needs)
+    (λ c. search needs)
+    (λ c. search needs)
+    (λ c κs. search needs)
     returns
-    add-cells
-    loop-less
+    (λ c. search needs)
+    (λ c. search needs)
     loop-again
     returns-2)

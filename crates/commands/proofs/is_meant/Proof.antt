@@ -6,21 +6,9 @@ use Rattle.commands.specs.Commands.{isMeant}
 use Rattle.commands.proofs.is_meant.Statement.{statement}
 use Rattle.commands.proofs.is_meant.Tie as tie
 
-first-word-requires : tie.Need-first-word-requires
-first-word-requires c κs = search needs
-
 returns : tie.Need-returns
 unfolding isMeant
 returns c = rw (← c .before .first-word .ensures, c .if1 .taken) refl
-
-form-text-requires : tie.Need-form-text-requires
-form-text-requires c κs = search needs
-
-first-word-requires-2 : tie.Need-first-word-requires-2
-first-word-requires-2 c κs = search needs
-
-same-requires : tie.Need-same-requires
-same-requires c κs = search needs
 
 returns-2 : tie.Need-returns-2
 unfolding isMeant
@@ -39,9 +27,9 @@ pub is-meant-spec : {M : Type 1} → statement M
 is-meant-spec =
     tie.close
     (tie.spec
-    first-word-requires
+    (λ c κs. search needs)
     returns
-    form-text-requires
-    first-word-requires-2
-    same-requires
+    (λ c κs. search needs)
+    (λ c κs. search needs)
+    (λ c κs. search needs)
     returns-2)

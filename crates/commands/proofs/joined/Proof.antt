@@ -4,21 +4,6 @@ use Rattle.commands.specs.Commands.{joined}
 use Rattle.commands.proofs.joined.Statement.{statement}
 use Rattle.commands.proofs.joined.Tie as tie
 
-enum-told : tie.Need-enum-told
-enum-told c = search needs
-
-enum-told-2 : tie.Need-enum-told-2
-enum-told-2 c = search needs
-
-enum-known-meaning : tie.Need-enum-known-meaning
-enum-known-meaning c = search needs
-
-enum-known-rest : tie.Need-enum-known-rest
-enum-known-rest c = search needs
-
-enum-told-3 : tie.Need-enum-told-3
-enum-told-3 c = search needs
-
 returns : tie.Need-returns
 unfolding joined
 returns c = rw (c .enum-told .given .1) refl
@@ -39,11 +24,11 @@ pub joined-spec : {M : Type 1} → statement M
 joined-spec =
     tie.close
     (tie.spec
-    enum-told
-    enum-told-2
-    enum-known-meaning
-    enum-known-rest
-    enum-told-3
+    (λ c. search needs)
+    (λ c. search needs)
+    (λ c. search needs)
+    (λ c. search needs)
+    (λ c. search needs)
     returns
     returns-2
     returns-3

@@ -12,20 +12,8 @@ Inv-loop forms names line count form₀ form = Unfit forms names line form
 abbrev μ-loop : tie.MeasureT-loop
 μ-loop forms names line count form₀ form = count - form
 
-form-count-requires : tie.Need-form-count-requires Inv-loop μ-loop
-form-count-requires c κs = search needs
-
 loop-holds : tie.Need-loop-holds Inv-loop μ-loop
 loop-holds c = forms-begin
-
-form-text-requires : tie.Need-form-text-requires Inv-loop μ-loop
-form-text-requires c κs = search needs
-
-fitted-requires : tie.Need-fitted-requires Inv-loop μ-loop
-fitted-requires c κs = search needs
-
-enum-known-fit : tie.Need-enum-known-fit Inv-loop μ-loop
-enum-known-fit c = search needs
 
 returns : tie.Need-returns Inv-loop μ-loop
 returns c =
@@ -34,24 +22,12 @@ returns c =
     form-found (loop .loop .inv) (tried .before .form-text .ensures) (tried .fitted .ensures)
     (omega (arith, loop .before .form-count .ensures)) (c .before .fit .given .1)
 
-enum-told : tie.Need-enum-told Inv-loop μ-loop
-enum-told c = search needs
-
-add-form : tie.Need-add-form Inv-loop μ-loop
-add-form c = search needs
-
-loop-less : tie.Need-loop-less Inv-loop μ-loop
-loop-less c = search needs
-
 loop-again : tie.Need-loop-again Inv-loop μ-loop
 loop-again c =
     let tried = c .before .before in
     let loop = tried .before .before .before in
     forms-on (loop .loop .inv) (tried .before .form-text .ensures) (tried .fitted .ensures)
     (omega (arith, loop .before .form-count .ensures)) (c .enum-told .given .1)
-
-bare-requires : tie.Need-bare-requires Inv-loop μ-loop
-bare-requires c κs = search needs
 
 returns-2 : tie.Need-returns-2 Inv-loop μ-loop
 returns-2 c =
@@ -64,15 +40,15 @@ parse-spec =
     (tie.spec
     Inv-loop
     μ-loop
-    form-count-requires
+    (λ c κs. search needs)
     loop-holds
-    form-text-requires
-    fitted-requires
-    enum-known-fit
+    (λ c κs. search needs)
+    (λ c κs. search needs)
+    (λ c. search needs)
     returns
-    enum-told
-    add-form
-    loop-less
+    (λ c. search needs)
+    (λ c. search needs)
+    (λ c. search needs)
     loop-again
-    bare-requires
+    (λ c κs. search needs)
     returns-2)

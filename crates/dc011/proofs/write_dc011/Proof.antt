@@ -3,18 +3,6 @@ use borrow.Author.Needs.{needs}
 use Rattle.dc011.proofs.write_dc011.Statement.{statement}
 use Rattle.dc011.proofs.write_dc011.Tie as tie
 
-set-columns-requires : tie.Need-set-columns-requires
-set-columns-requires c κs = search needs
-
-set-columns-requires-2 : tie.Need-set-columns-requires-2
-set-columns-requires-2 c κs = search needs
-
-set-rate-requires : tie.Need-set-rate-requires
-set-rate-requires c κs = search needs
-
-set-rate-requires-2 : tie.Need-set-rate-requires-2
-set-rate-requires-2 c κs = search needs
-
 returns : tie.Need-returns
 returns c = rw (c .before .match .keys1) (c .set-columns .ensures)
 
@@ -41,10 +29,10 @@ pub write-dc011-spec : {M : Type 1} → statement M
 write-dc011-spec =
     tie.close
     (tie.spec
-    set-columns-requires
-    set-columns-requires-2
-    set-rate-requires
-    set-rate-requires-2
+    (λ c κs. search needs)
+    (λ c κs. search needs)
+    (λ c κs. search needs)
+    (λ c κs. search needs)
     returns
     returns-2
     returns-3

@@ -4,18 +4,6 @@ use borrow.Author.Needs.{needs}
 use Rattle.dc012.proofs.write_dc012.Statement.{statement}
 use Rattle.dc012.proofs.write_dc012.Tie as tie
 
-mul-machine : tie.Need-mul-machine
-mul-machine c = search needs
-
-add-machine : tie.Need-add-machine
-add-machine c = search needs
-
-mul-machine-2 : tie.Need-mul-machine-2
-mul-machine-2 c = search needs
-
-add-machine-2 : tie.Need-add-machine-2
-add-machine-2 c = search needs
-
 returns : tie.Need-returns
 returns c =
     let code = c .before .before .before .before .args .code in
@@ -47,10 +35,10 @@ pub write-dc012-spec : {M : Type 1} → statement M
 write-dc012-spec =
     tie.close
     (tie.spec
-    mul-machine
-    add-machine
-    mul-machine-2
-    add-machine-2
+    (λ c. search needs)
+    (λ c. search needs)
+    (λ c. search needs)
+    (λ c. search needs)
     returns
     returns-2
     returns-3

@@ -5,28 +5,10 @@ use borrow.Author.Needs.{needs}
 use Rattle.diagnostic.proofs.write_diagnostic.Statement.{statement}
 use Rattle.diagnostic.proofs.write_diagnostic.Tie as tie
 
-rises-requires : tie.Need-rises-requires
-rises-requires c κs = search needs
-
-rises-requires-2 : tie.Need-rises-requires-2
-rises-requires-2 c κs = search needs
-
 returns : tie.Need-returns
 returns c =
     let at = c .before .before in
     rw (sym (at .before .rises .ensures) ∙ c .before .if1 .taken, sym (at .rises2 .ensures) ∙ c .if2 .taken)
-
-copy-requires : tie.Need-copy-requires
-copy-requires c κs = search needs
-
-copy-requires-2 : tie.Need-copy-requires-2
-copy-requires-2 c κs = search needs
-
-same-length : tie.Need-same-length
-same-length c = search needs
-
-same-length-2 : tie.Need-same-length-2
-same-length-2 c = search needs
 
 returns-2 : tie.Need-returns-2
 returns-2 c =
@@ -37,12 +19,6 @@ returns-2 c =
       sym (at .rises2 .ensures) ∙ else2 .if2 .left,
       c .before .before .copy .ensures,
     )
-
-same-length-3 : tie.Need-same-length-3
-same-length-3 c = search needs
-
-same-length-4 : tie.Need-same-length-4
-same-length-4 c = search needs
 
 returns-3 : tie.Need-returns-3
 returns-3 c =
@@ -63,15 +39,15 @@ pub write-diagnostic-spec : {M : Type 1} → statement M
 write-diagnostic-spec =
     tie.close
     (tie.spec
-    rises-requires
-    rises-requires-2
+    (λ c κs. search needs)
+    (λ c κs. search needs)
     returns
-    copy-requires
-    copy-requires-2
-    same-length
-    same-length-2
+    (λ c κs. search needs)
+    (λ c κs. search needs)
+    (λ c. search needs)
+    (λ c. search needs)
     returns-2
-    same-length-3
-    same-length-4
+    (λ c. search needs)
+    (λ c. search needs)
     returns-3
     returns-4)

@@ -4,9 +4,6 @@ use Rattle.dots.specs.Cell.{cellWidth}
 use Rattle.dots.proofs.cell_width.Statement.{statement}
 use Rattle.dots.proofs.cell_width.Tie as tie
 
-is-wide-requires : tie.Need-is-wide-requires
-is-wide-requires c κs = search needs
-
 returns : tie.Need-returns
 unfolding cellWidth
 returns c = rw (c .before .if1 .taken, sym (c .before .before .is-wide .ensures) ∙ c .if2 .taken) refl
@@ -24,4 +21,4 @@ unfolding cellWidth
 returns-4 c = rw (c .before .if1 .left, sym (c .before .before .is-wide .ensures) ∙ c .if3 .left) refl
 
 pub cell-width-spec : {M : Type 1} → statement M
-cell-width-spec = tie.close (tie.spec is-wide-requires returns returns-2 returns-3 returns-4)
+cell-width-spec = tie.close (tie.spec (λ c κs. search needs) returns returns-2 returns-3 returns-4)

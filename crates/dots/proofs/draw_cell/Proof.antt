@@ -5,15 +5,6 @@ use Rattle.dots.proofs.Laws.{two-shades}
 use Rattle.dots.proofs.draw_cell.Statement.{statement}
 use Rattle.dots.proofs.draw_cell.Tie as tie
 
-shade-requires : tie.Need-shade-requires
-shade-requires c κs = search needs
-
-shade-requires-2 : tie.Need-shade-requires-2
-shade-requires-2 c κs = search needs
-
-is-wide-requires : tie.Need-is-wide-requires
-is-wide-requires c κs = search needs
-
 draw-wide-requires : tie.Need-draw-wide-requires
 unfolding cellWidth
 draw-wide-requires c κs =
@@ -26,9 +17,6 @@ draw-narrow-requires c κs =
     let e = sym (c .before .before .is-wide .ensures) ∙ c .before .if1 .left in
     c .before .before .before .before .before .before .pre ∙ rw e refl
 
-same-length : tie.Need-same-length
-same-length c = search needs
-
 returns : tie.Need-returns
 unfolding cellDots
 returns c =
@@ -37,9 +25,6 @@ returns c =
     let e = sym (t .before .is-wide .ensures) ∙ t .if1 .taken in
     rw (c .before .before .draw-wide .ensures, t .before .before .shade2 .ensures, t .before .before .before .shade .ensures, e)
     (two-shades (a .machine) (a .attribute) (a .scan) (twice (glyphDots (a .machine .columns132) (a .glyph))))
-
-same-length-2 : tie.Need-same-length-2
-same-length-2 c = search needs
 
 returns-2 : tie.Need-returns-2
 unfolding cellDots
@@ -54,12 +39,12 @@ pub draw-cell-spec : {M : Type 1} → statement M
 draw-cell-spec =
     tie.close
     (tie.spec
-    shade-requires
-    shade-requires-2
-    is-wide-requires
+    (λ c κs. search needs)
+    (λ c κs. search needs)
+    (λ c κs. search needs)
     draw-wide-requires
     draw-narrow-requires
-    same-length
+    (λ c. search needs)
     returns
-    same-length-2
+    (λ c. search needs)
     returns-2)

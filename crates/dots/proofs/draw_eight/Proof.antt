@@ -19,18 +19,6 @@ loop-holds c = none-drawn 1 _ _ (search needs)
 sub-shade-bit : tie.Need-sub-shade-bit Inv-loop μ-loop
 sub-shade-bit c = search needs
 
-shade-bit-requires : tie.Need-shade-bit-requires Inv-loop μ-loop
-shade-bit-requires c κs = search needs
-
-slice-write-into : tie.Need-slice-write-into Inv-loop μ-loop
-slice-write-into c = search needs
-
-add-dot : tie.Need-add-dot Inv-loop μ-loop
-add-dot c = search needs
-
-loop-less : tie.Need-loop-less Inv-loop μ-loop
-loop-less c = search needs
-
 loop-again : tie.Need-loop-again Inv-loop μ-loop
 loop-again c = one-drawn (c .before .before .loop .inv) (search needs) (c .shade-bit .ensures)
 
@@ -49,10 +37,10 @@ draw-eight-spec =
     μ-loop
     loop-holds
     sub-shade-bit
-    shade-bit-requires
-    slice-write-into
-    add-dot
-    loop-less
+    (λ c κs. search needs)
+    (λ c. search needs)
+    (λ c. search needs)
+    (λ c. search needs)
     loop-again
     same-length
     returns)

@@ -17,32 +17,8 @@ abbrev μ-loop : tie.MeasureT-loop
 loop-holds : tie.Need-loop-holds Inv-loop μ-loop
 loop-holds c = none-drawn 2 _ _ (search needs)
 
-sub-shade-bit : tie.Need-sub-shade-bit Inv-loop μ-loop
-sub-shade-bit c = search needs
-
-shade-bit-requires : tie.Need-shade-bit-requires Inv-loop μ-loop
-shade-bit-requires c κs = search needs
-
-mul-into : tie.Need-mul-into Inv-loop μ-loop
-mul-into c = search needs
-
-slice-write-into : tie.Need-slice-write-into Inv-loop μ-loop
-slice-write-into c = search needs
-
-mul-into-2 : tie.Need-mul-into-2 Inv-loop μ-loop
-mul-into-2 c = search needs
-
-add-into : tie.Need-add-into Inv-loop μ-loop
-add-into c = search needs
-
 slice-write-into-2 : tie.Need-slice-write-into-2 Inv-loop μ-loop
 slice-write-into-2 c = simp length-set (search needs)
-
-add-dot : tie.Need-add-dot Inv-loop μ-loop
-add-dot c = search needs
-
-loop-less : tie.Need-loop-less Inv-loop μ-loop
-loop-less c = search needs
 
 loop-again : tie.Need-loop-again Inv-loop μ-loop
 loop-again c = two-drawn (c .before .before .loop .inv) (search needs) (c .shade-bit .ensures)
@@ -61,15 +37,15 @@ draw-eight-twice-spec =
     Inv-loop
     μ-loop
     loop-holds
-    sub-shade-bit
-    shade-bit-requires
-    mul-into
-    slice-write-into
-    mul-into-2
-    add-into
+    (λ c. search needs)
+    (λ c κs. search needs)
+    (λ c. search needs)
+    (λ c. search needs)
+    (λ c. search needs)
+    (λ c. search needs)
     slice-write-into-2
-    add-dot
-    loop-less
+    (λ c. search needs)
+    (λ c. search needs)
     loop-again
     same-length
     returns)

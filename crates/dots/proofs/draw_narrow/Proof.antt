@@ -29,23 +29,14 @@ eight c = record { drawn = c .before .before .before .draw-eight .ensures; again
 draw-eight-requires : tie.Need-draw-eight-requires
 draw-eight-requires c κs = omega (arith, c .before .before .pre, narrow-room (c .before .before .args .columns132))
 
-shade-bit-requires : tie.Need-shade-bit-requires
-shade-bit-requires c κs = search needs
-
 slice-write-into : tie.Need-slice-write-into
 slice-write-into c = omega (arith, size c, narrow-room (asked c .args .columns132))
-
-same-length : tie.Need-same-length
-same-length c = search needs
 
 returns : tie.Need-returns
 returns c = rw (c .if1 .taken) (narrow-132 (eight (c .before)) (size (c .before) ∙ ap narrowWidth (c .if1 .taken)))
 
 slice-write-into-2 : tie.Need-slice-write-into-2
 slice-write-into-2 c = simp length-set (omega (arith, size (c .before) ∙ ap narrowWidth (c .if1 .left)))
-
-same-length-2 : tie.Need-same-length-2
-same-length-2 c = search needs
 
 returns-2 : tie.Need-returns-2
 returns-2 c = rw (c .if1 .left) (narrow-80 (eight (c .before)) (size (c .before) ∙ ap narrowWidth (c .if1 .left)))
@@ -55,10 +46,10 @@ draw-narrow-spec =
     tie.close
     (tie.spec
     draw-eight-requires
-    shade-bit-requires
+    (λ c κs. search needs)
     slice-write-into
-    same-length
+    (λ c. search needs)
     returns
     slice-write-into-2
-    same-length-2
+    (λ c. search needs)
     returns-2)

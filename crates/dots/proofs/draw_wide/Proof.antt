@@ -29,17 +29,11 @@ eight c = record { drawn = c .before .before .before .draw-eight-twice .ensures;
 draw-eight-twice-requires : tie.Need-draw-eight-twice-requires
 draw-eight-twice-requires c κs = omega (arith, c .before .before .pre, wide-room (c .before .before .args .columns132))
 
-shade-bit-requires : tie.Need-shade-bit-requires
-shade-bit-requires c κs = search needs
-
 slice-write-into : tie.Need-slice-write-into
 slice-write-into c = omega (arith, size c, wide-room (asked c .args .columns132))
 
 slice-write-into-2 : tie.Need-slice-write-into-2
 slice-write-into-2 c = simp length-set (omega (arith, size c, wide-room (asked c .args .columns132)))
-
-same-length : tie.Need-same-length
-same-length c = search needs
 
 returns : tie.Need-returns
 returns c = rw (c .if1 .taken) (wide-132 (eight (c .before)) (size (c .before) ∙ ap wideWidth (c .if1 .taken)))
@@ -50,9 +44,6 @@ slice-write-into-3 c = simp length-set (omega (arith, size (c .before) ∙ ap wi
 slice-write-into-4 : tie.Need-slice-write-into-4
 slice-write-into-4 c = simp length-set (omega (arith, size (c .before) ∙ ap wideWidth (c .if1 .left)))
 
-same-length-2 : tie.Need-same-length-2
-same-length-2 c = search needs
-
 returns-2 : tie.Need-returns-2
 returns-2 c = rw (c .if1 .left) (wide-80 (eight (c .before)) (size (c .before) ∙ ap wideWidth (c .if1 .left)))
 
@@ -61,12 +52,12 @@ draw-wide-spec =
     tie.close
     (tie.spec
     draw-eight-twice-requires
-    shade-bit-requires
+    (λ c κs. search needs)
     slice-write-into
     slice-write-into-2
-    same-length
+    (λ c. search needs)
     returns
     slice-write-into-3
     slice-write-into-4
-    same-length-2
+    (λ c. search needs)
     returns-2)

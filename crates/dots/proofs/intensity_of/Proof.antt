@@ -10,21 +10,15 @@ use Rattle.dots.proofs.intensity_of.Tie as tie
 returns : tie.Need-returns
 returns c = rw (not-true (c .before .args .lit) (c .if1 .taken)) refl
 
-steady-requires : tie.Need-steady-requires
-steady-requires c κs = search needs
-
 sub-result : tie.Need-sub-result
 sub-result c = omega (arith, c .steady .ensures, steady-lit (c .before .before .before .before .args .attribute))
 
 returns-2 : tie.Need-returns-2
 returns-2 c = rw (not-false (c .before .before .before .before .args .lit) (c .before .before .before .if1 .left), c .before .if2 .taken, c .steady .ensures) refl
 
-steady-requires-2 : tie.Need-steady-requires-2
-steady-requires-2 c κs = search needs
-
 returns-3 : tie.Need-returns-3
 returns-3 c = rw (not-false (c .before .before .before .before .args .lit) (c .before .before .before .if1 .left), c .before .if2 .left, c .steady2 .ensures) (sym (sub-zero _))
 
 pub intensity-of-spec : {M : Type 1} → statement M
 intensity-of-spec =
-    tie.close (tie.spec returns steady-requires sub-result returns-2 steady-requires-2 returns-3)
+    tie.close (tie.spec returns (λ c κs. search needs) sub-result returns-2 (λ c κs. search needs) returns-3)

@@ -4,15 +4,9 @@ use Rattle.dots.specs.Attributes.{shade}
 use Rattle.dots.proofs.shade.Statement.{statement}
 use Rattle.dots.proofs.shade.Tie as tie
 
-is-lit-requires : tie.Need-is-lit-requires
-is-lit-requires c κs = search needs
-
-intensity-of-requires : tie.Need-intensity-of-requires
-intensity-of-requires c κs = search needs
-
 returns : tie.Need-returns
 unfolding shade
 returns c = rw (c .intensity-of .ensures, c .before .is-lit .ensures) refl
 
 pub shade-spec : {M : Type 1} → statement M
-shade-spec = tie.close (tie.spec is-lit-requires intensity-of-requires returns)
+shade-spec = tie.close (tie.spec (λ c κs. search needs) (λ c κs. search needs) returns)

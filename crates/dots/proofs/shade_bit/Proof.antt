@@ -6,12 +6,6 @@ use Rattle.dots.proofs.Laws.{bit-tested}
 use Rattle.dots.proofs.shade_bit.Statement.{statement}
 use Rattle.dots.proofs.shade_bit.Tie as tie
 
-cast-if1 : tie.Need-cast-if1
-cast-if1 c = search needs
-
-shr-if1 : tie.Need-shr-if1
-shr-if1 c = search needs
-
 returns : tie.Need-returns
 returns c =
     let e = bit-tested (c .before .args .glyph) (c .before .args .bit) in
@@ -24,4 +18,4 @@ returns-2 c =
     rw (ne-eqb (bit (a .bit) (a .glyph)) 1 (λ h. c .if1 .left (e ∙ h))) refl
 
 pub shade-bit-spec : {M : Type 1} → statement M
-shade-bit-spec = tie.close (tie.spec cast-if1 shr-if1 returns returns-2)
+shade-bit-spec = tie.close (tie.spec (λ c. search needs) (λ c. search needs) returns returns-2)

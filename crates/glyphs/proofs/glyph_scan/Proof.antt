@@ -6,15 +6,6 @@ use Rattle.glyphs.specs.Scans.{glyphScan}
 use Rattle.glyphs.proofs.glyph_scan.Statement.{statement}
 use Rattle.glyphs.proofs.glyph_scan.Tie as tie
 
-add-result : tie.Need-add-result
-add-result c = search needs
-
-add-result-2 : tie.Need-add-result-2
-add-result-2 c = search needs
-
-add-result-3 : tie.Need-add-result-3
-add-result-3 c = search needs
-
 returns : tie.Need-returns
 unfolding glyphScan
 returns c = (rw (c .match .keys1) refl, omega arith)
@@ -29,4 +20,4 @@ returns-3 c = (rw (ne-eqb _ _ (c .match .rest .0 .1), ne-eqb _ _ (c .match .rest
 
 pub glyph-scan-spec : {M : Type 1} → statement M
 glyph-scan-spec =
-    tie.close (tie.spec add-result add-result-2 add-result-3 returns returns-2 returns-3)
+    tie.close (tie.spec (λ c. search needs) (λ c. search needs) (λ c. search needs) returns returns-2 returns-3)

@@ -5,12 +5,9 @@ use Rattle.glyphs.specs.Scans.{scanAddress}
 use Rattle.glyphs.proofs.scan_address.Statement.{statement}
 use Rattle.glyphs.proofs.scan_address.Tie as tie
 
-add-result : tie.Need-add-result
-add-result c = search needs
-
 returns : tie.Need-returns
 unfolding scanAddress
 returns c = (refl, omega arith)
 
 pub scan-address-spec : {M : Type 1} → statement M
-scan-address-spec = tie.close (tie.spec add-result returns)
+scan-address-spec = tie.close (tie.spec (λ c. search needs) returns)

@@ -7,21 +7,9 @@ use Rattle.listing.specs.Listing.{drawing}
 use Rattle.listing.proofs.draw_read.Statement.{statement}
 use Rattle.listing.proofs.draw_read.Tie as tie
 
-refused-requires : tie.Need-refused-requires
-refused-requires c κs = search needs
-
 returns : tie.Need-returns
 unfolding drawing
 returns c = rw (ne-eqb _ 0 (c .before .if1 .taken), c .refused .ensures)
-
-power-up-requires : tie.Need-power-up-requires
-power-up-requires c κs = search needs
-
-draw-requires : tie.Need-draw-requires
-draw-requires c κs = search needs
-
-same-length : tie.Need-same-length
-same-length c = search needs
 
 returns-2 : tie.Need-returns-2
 unfolding drawing
@@ -33,4 +21,4 @@ returns-2 c =
     rw (eq-eqb _ _ (p .before .if1 .left)) (d .draw .ensures ∙ ap drawn-at (p .power-up .ensures))
 
 pub draw-read-spec : {M : Type 1} → statement M
-draw-read-spec = tie.close (tie.spec refused-requires returns power-up-requires draw-requires same-length returns-2)
+draw-read-spec = tie.close (tie.spec (λ c κs. search needs) returns (λ c κs. search needs) (λ c κs. search needs) (λ c. search needs) returns-2)

@@ -9,22 +9,10 @@ use Rattle.listing.proofs.Laws.{all-listed}
 use Rattle.listing.proofs.list_rows.Statement.{statement}
 use Rattle.listing.proofs.list_rows.Tie as tie
 
-draw-read-requires : tie.Need-draw-read-requires
-draw-read-requires c κs = search needs
-
-power-up-requires : tie.Need-power-up-requires
-power-up-requires c κs = search needs
-
-columns-requires : tie.Need-columns-requires
-columns-requires c κs = search needs
-
 cast-columns : tie.Need-cast-columns
 cast-columns c =
     let narrow : c .columns .result ≡ 80 = c .columns .ensures ∙ ap columns (c .before .power-up .ensures) in
     omega arith
-
-put-drawn-requires : tie.Need-put-drawn-requires
-put-drawn-requires c κs = search needs
 
 returns : tie.Need-returns
 returns c =
@@ -44,9 +32,9 @@ pub list-rows-spec : {M : Type 1} → statement M
 list-rows-spec =
     tie.close
     (tie.spec
-    draw-read-requires
-    power-up-requires
-    columns-requires
+    (λ c κs. search needs)
+    (λ c κs. search needs)
+    (λ c κs. search needs)
     cast-columns
-    put-drawn-requires
+    (λ c κs. search needs)
     returns)

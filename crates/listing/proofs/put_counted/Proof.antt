@@ -6,26 +6,11 @@ use Rattle.listing.specs.Listing.{counted}
 use Rattle.listing.proofs.put_counted.Statement.{statement}
 use Rattle.listing.proofs.put_counted.Tie as tie
 
-slice-aggregate-put : tie.Need-slice-aggregate-put
-slice-aggregate-put c = search needs
-
-put-requires : tie.Need-put-requires
-put-requires c κs = search needs
-
-same-length : tie.Need-same-length
-same-length c = search needs
-
 returns : tie.Need-returns
 unfolding counted ascii
 returns c =
     let p = c .before .before in
     (rw (eq-eqb _ _ (p .before .before .before .if1 .taken)) (p .put .ensures), omega (arith, p .put .ensures .goes-on))
-
-put-decimal-requires : tie.Need-put-decimal-requires
-put-decimal-requires c κs = search needs
-
-same-length-2 : tie.Need-same-length-2
-same-length-2 c = search needs
 
 returns-2 : tie.Need-returns-2
 unfolding counted
@@ -37,10 +22,10 @@ pub put-counted-spec : {M : Type 1} → statement M
 put-counted-spec =
     tie.close
     (tie.spec
-    slice-aggregate-put
-    put-requires
-    same-length
+    (λ c. search needs)
+    (λ c κs. search needs)
+    (λ c. search needs)
     returns
-    put-decimal-requires
-    same-length-2
+    (λ c κs. search needs)
+    (λ c. search needs)
     returns-2)

@@ -6,27 +6,12 @@ use Rattle.listing.specs.Listing.{textOf}
 use Rattle.listing.proofs.put_drawn.Statement.{statement}
 use Rattle.listing.proofs.put_drawn.Tie as tie
 
-put-refused-requires : tie.Need-put-refused-requires
-put-refused-requires c κs = search needs
-
-same-length : tie.Need-same-length
-same-length c = search needs
-
 returns : tie.Need-returns
 unfolding textOf
 returns c =
     let p = c .before .before .put-refused in
     let refused = c .before .before .before .before .if1 .taken in
     (rw (ne-eqb _ _ refused) (p .ensures .0), omega (arith, p .ensures .1))
-
-put-heading-requires : tie.Need-put-heading-requires
-put-heading-requires c κs = search needs
-
-put-rows-requires : tie.Need-put-rows-requires
-put-rows-requires c κs = search needs
-
-same-length-2 : tie.Need-same-length-2
-same-length-2 c = search needs
 
 returns-2 : tie.Need-returns-2
 unfolding textOf
@@ -41,10 +26,10 @@ pub put-drawn-spec : {M : Type 1} → statement M
 put-drawn-spec =
     tie.close
     (tie.spec
-    put-refused-requires
-    same-length
+    (λ c κs. search needs)
+    (λ c. search needs)
     returns
-    put-heading-requires
-    put-rows-requires
-    same-length-2
+    (λ c κs. search needs)
+    (λ c κs. search needs)
+    (λ c. search needs)
     returns-2)

@@ -21,24 +21,12 @@ loop-holds : tie.Need-loop-holds Inv-loop μ-loop
 unfolding linesTo
 loop-holds c = (omega arith, (omega arith, put-none))
 
-put-row-requires : tie.Need-put-row-requires Inv-loop μ-loop
-put-row-requires c κs = search needs
-
-add-row : tie.Need-add-row Inv-loop μ-loop
-add-row c = search needs
-
-loop-less : tie.Need-loop-less Inv-loop μ-loop
-loop-less c = search needs
-
 loop-again : tie.Need-loop-again Inv-loop μ-loop
 unfolding linesTo
 loop-again c =
     let p = c .before .before in
     let l = p .before .before .before .loop in
     (omega arith, (omega arith, rw (add-one (l .row)) (l .inv .1 .1 then p .put-row .ensures .0)))
-
-same-length : tie.Need-same-length Inv-loop μ-loop
-same-length c = search needs
 
 returns : tie.Need-returns Inv-loop μ-loop
 returns c =
@@ -53,9 +41,9 @@ put-rows-spec =
     Inv-loop
     μ-loop
     loop-holds
-    put-row-requires
-    add-row
-    loop-less
+    (λ c κs. search needs)
+    (λ c. search needs)
+    (λ c. search needs)
     loop-again
-    same-length
+    (λ c. search needs)
     returns)

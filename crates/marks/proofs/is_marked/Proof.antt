@@ -17,15 +17,9 @@ returns c =
     let under : c .before .args .marks < 2 ^ row = omega (arith, pow-mono {i = 32} {j = row} (omega arith)) in
     rw (div-eq-of-lt under) refl
 
-cast-result : tie.Need-cast-result
-cast-result c = search needs
-
-shr-result : tie.Need-shr-result
-shr-result c = search needs
-
 returns-2 : tie.Need-returns-2
 unfolding bitSet
 returns-2 c = ap (λ (n : ℕ). eqb n 1) (and-mask (c .before .args .marks / 2 ^ c .before .args .row) 1)
 
 pub is-marked-spec : {M : Type 1} → statement M
-is-marked-spec = tie.close (tie.spec returns cast-result shr-result returns-2)
+is-marked-spec = tie.close (tie.spec returns (λ c. search needs) (λ c. search needs) returns-2)

@@ -7,12 +7,6 @@ use borrow.Author.Needs.{needs}
 use Rattle.marks.proofs.mark.Statement.{statement}
 use Rattle.marks.proofs.mark.Tie as tie
 
-cast-result : tie.Need-cast-result
-cast-result c = search needs
-
-shl-result : tie.Need-shl-result
-shl-result c = search needs
-
 returns : tie.Need-returns
 returns c =
     let marks = c .before .args .marks in
@@ -24,4 +18,4 @@ returns-2 : tie.Need-returns-2
 returns-2 c = rw (c .if1 .left, zero-mul, add-zero)
 
 pub mark-spec : {M : Type 1} → statement M
-mark-spec = tie.close (tie.spec cast-result shl-result returns returns-2)
+mark-spec = tie.close (tie.spec (λ c. search needs) (λ c. search needs) returns returns-2)

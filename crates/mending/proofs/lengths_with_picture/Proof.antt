@@ -4,9 +4,6 @@ use Rattle.mending.specs.Store.{lengthsWithPicture}
 use Rattle.mending.proofs.lengths_with_picture.Statement.{statement}
 use Rattle.mending.proofs.lengths_with_picture.Tie as tie
 
-lengths-8088-requires : tie.Need-lengths-8088-requires
-lengths-8088-requires c κs = search needs
-
 returns : tie.Need-returns
 unfolding lengthsWithPicture
 returns c = rw (← c .before .lengths-8088 .ensures, c .if1 .taken) refl
@@ -16,4 +13,4 @@ unfolding lengthsWithPicture
 returns-2 c = rw (← c .before .lengths-8088 .ensures, c .if1 .left) refl
 
 pub lengths-with-picture-spec : {M : Type 1} → statement M
-lengths-with-picture-spec = tie.close (tie.spec lengths-8088-requires returns returns-2)
+lengths-with-picture-spec = tie.close (tie.spec (λ c κs. search needs) returns returns-2)

@@ -22,21 +22,6 @@ loop-holds c =
     let p = s .pre in
     mend-begins _ _ _ (p .1 .1 .1 .0 .0) (p .1 .1 .0) (s .args .first .ahead) (p .1 .1 .1 .0 .1) (p .1 .1 .1 .1)
 
-mul-at : tie.Need-mul-at Inv-loop μ-loop
-mul-at c = search needs
-
-add-end : tie.Need-add-end Inv-loop μ-loop
-add-end c = search needs
-
-sub-mend-row : tie.Need-sub-mend-row Inv-loop μ-loop
-sub-mend-row c = search needs
-
-part-mend-row-start : tie.Need-part-mend-row-start Inv-loop μ-loop
-part-mend-row-start c = search needs
-
-part-mend-row-end : tie.Need-part-mend-row-end Inv-loop μ-loop
-part-mend-row-end c = search needs
-
 mend-row-requires : tie.Need-mend-row-requires Inv-loop μ-loop
 mend-row-requires c κs =
     let i = c .before .before in
@@ -50,12 +35,6 @@ mark-requires c κs =
     let m = i .before .loop .inv in
     (rw (m .told) (marks-under _ _), omega arith)
 
-add-row : tie.Need-add-row Inv-loop μ-loop
-add-row c = search needs
-
-loop-less : tie.Need-loop-less Inv-loop μ-loop
-loop-less c = search needs
-
 loop-again : tie.Need-loop-again Inv-loop μ-loop
 loop-again c =
     let r = c .before .before .before in
@@ -64,9 +43,6 @@ loop-again c =
     let p = l .before .before .before .before .pre in
     mend-goes-on _ _ _ (p .1 .1 .1 .0 .0) (p .1 .1 .0) (l .loop .inv) (i .loop-test .taken) (r .mend-row .ensures .0) (r .mend-row .ensures .1)
     (r .mend-row .kept .1 .1 .1 .1 .0 ∙ record-lent _ _ (l .loop .inv .same) (i .loop-test .taken)) (c .mark .ensures)
-
-same-length : tie.Need-same-length Inv-loop μ-loop
-same-length c = search needs
 
 returns : tie.Need-returns Inv-loop μ-loop
 returns c = mend-ends (c .before .loop .inv) (c .loop-test .left)
@@ -78,15 +54,15 @@ mend-spec =
     Inv-loop
     μ-loop
     loop-holds
-    mul-at
-    add-end
-    sub-mend-row
-    part-mend-row-start
-    part-mend-row-end
+    (λ c. search needs)
+    (λ c. search needs)
+    (λ c. search needs)
+    (λ c. search needs)
+    (λ c. search needs)
     mend-row-requires
     mark-requires
-    add-row
-    loop-less
+    (λ c. search needs)
+    (λ c. search needs)
     loop-again
-    same-length
+    (λ c. search needs)
     returns)

@@ -15,28 +15,10 @@ abbrev μ-loop : tie.MeasureT-loop
 loop-holds : tie.Need-loop-holds Inv-loop μ-loop
 loop-holds c = none-replaced (search needs)
 
-shared-slice-read-byte : tie.Need-shared-slice-read-byte Inv-loop μ-loop
-shared-slice-read-byte c = search needs
-
-slice-read-changed : tie.Need-slice-read-changed Inv-loop μ-loop
-slice-read-changed c = search needs
-
-slice-write-kept : tie.Need-slice-write-kept Inv-loop μ-loop
-slice-write-kept c = search needs
-
-add-at : tie.Need-add-at Inv-loop μ-loop
-add-at c = search needs
-
-loop-less : tie.Need-loop-less Inv-loop μ-loop
-loop-less c = search needs
-
 loop-again : tie.Need-loop-again Inv-loop μ-loop
 loop-again c =
     let l = c .before .before .before in
     one-replaced (l .loop .inv) (l .before .pre .0) (l .before .pre .1) (omega arith)
-
-same-length : tie.Need-same-length Inv-loop μ-loop
-same-length c = search needs
 
 returns : tie.Need-returns Inv-loop μ-loop
 returns c = all-replaced (c .before .loop .inv) (c .before .before .pre .0) (c .before .before .pre .1) (omega arith)
@@ -48,11 +30,11 @@ replace-spec =
     Inv-loop
     μ-loop
     loop-holds
-    shared-slice-read-byte
-    slice-read-changed
-    slice-write-kept
-    add-at
-    loop-less
+    (λ c. search needs)
+    (λ c. search needs)
+    (λ c. search needs)
+    (λ c. search needs)
+    (λ c. search needs)
     loop-again
-    same-length
+    (λ c. search needs)
     returns)

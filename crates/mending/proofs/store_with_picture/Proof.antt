@@ -8,10 +8,10 @@ use borrow.Author.Needs.{needs}
 use denote.Ref.{now}
 use Rattle.lent.specs.Refusals.{accepted, refuses, lengthRefused}
 use Rattle.memories.proofs.Laws.{lent8088, right8088, accepted8088}
-use Rattle.chain.specs.Chain.{places, rows}
+use Rattle.chain.specs.Chain.{places}
 use Rattle.records.specs.Record.{recordPairs}
 use Rattle.picture.proofs.Laws.{columns-fit}
-use Rattle.readers.proofs.Readers.{is-first}
+use Rattle.readers.proofs.Readers.{found-within}
 use Rattle.mending.specs.Store.{lengthsWithPicture, refusalWithPicture}
 use Rattle.mending.proofs.Outcome.{lent-with-picture, in-memory, comes-stored, outcome}
 use Rattle.mending.proofs.store_with_picture.Statement.{statement}
@@ -35,12 +35,6 @@ goes-on :
 goes-on a h =
     rw (← a .before .lengths-with-picture .ensures) (ap refuses (accepted8088 _ _ _ (a .refusal-8088 .ensures) h))
 
-lengths-with-picture-requires : tie.Need-lengths-with-picture-requires
-lengths-with-picture-requires c κs = search needs
-
-refusal-8088-requires : tie.Need-refusal-8088-requires
-refusal-8088-requires c κs = search needs
-
 returns : tie.Need-returns
 returns c =
     let a = c .before in
@@ -49,12 +43,6 @@ returns c =
       ← a .refusal-8088 .ensures,
       ne-eqb (a .refusal-8088 .result) 0 (λ e. omega arith),
     )
-
-columns-requires : tie.Need-columns-requires
-columns-requires c κs = search needs
-
-seen-8088-requires : tie.Need-seen-8088-requires
-seen-8088-requires c κs = search needs
 
 first-reader-requires : tie.Need-first-reader-requires
 first-reader-requires c κs =
@@ -88,23 +76,11 @@ mend-requires c κs =
     let memories = lent8088 (lent .0) in
     let wide : k .columns .result ≤ recordPairs = rw (k .columns .ensures) (columns-fit (args .machine)) in
     let reader = f .first-reader in
-    let within : reader .result .row ≤ rows = rw (reader .ensures .first) (is-first _ _ .0) in
+    let within = found-within (reader .ensures) in
     let comes = comes-stored _ (args .shared .now) _ _ _ _ (left .store-at .ensures) (s .seen-8088 .ensures) (reader .ensures) in (
       left .store-at .kept .1 .0 ∙ memories .1 .0,
       (left .store-at .kept .1 .1 .0 ∙ memories .1 .1, (eqb-true _ _ (lent .1), ((wide, within), comes))),
     )
-
-same-length : tie.Need-same-length
-same-length c = search needs
-
-same-length-2 : tie.Need-same-length-2
-same-length-2 c = search needs
-
-same-length-3 : tie.Need-same-length-3
-same-length-3 c = search needs
-
-same-length-4 : tie.Need-same-length-4
-same-length-4 c = search needs
 
 returns-2 : tie.Need-returns-2
 returns-2 c =
@@ -122,16 +98,16 @@ pub store-with-picture-spec : {M : Type 1} → statement M
 store-with-picture-spec =
     tie.close
     (tie.spec
-    lengths-with-picture-requires
-    refusal-8088-requires
+    (λ c κs. search needs)
+    (λ c κs. search needs)
     returns
-    columns-requires
-    seen-8088-requires
+    (λ c κs. search needs)
+    (λ c κs. search needs)
     first-reader-requires
     store-at-requires
     mend-requires
-    same-length
-    same-length-2
-    same-length-3
-    same-length-4
+    (λ c. search needs)
+    (λ c. search needs)
+    (λ c. search needs)
+    (λ c. search needs)
     returns-2)

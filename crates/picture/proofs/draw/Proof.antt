@@ -10,19 +10,10 @@ use Rattle.picture.proofs.Laws.{lentPicture, columns-fit}
 use Rattle.picture.proofs.draw.Statement.{statement}
 use Rattle.picture.proofs.draw.Tie as tie
 
-lengths-picture-requires : tie.Need-lengths-picture-requires
-lengths-picture-requires c κs = search needs
-
-refused-requires : tie.Need-refused-requires
-refused-requires c κs = search needs
-
 returns : tie.Need-returns
 returns c =
     let e = c .before in
     rw (failed (e .before .lengths-picture .ensures) (e .if1 .taken)) cc
-
-columns-requires : tie.Need-columns-requires
-columns-requires c κs = search needs
 
 draw-rows-requires : tie.Need-draw-rows-requires
 draw-rows-requires c κs =
@@ -31,9 +22,6 @@ draw-rows-requires c κs =
     let m = e .before .before .before .before .before .args .machine in
     let right = lentPicture (held (e .before .lengths-picture .ensures) (e .if1 .left)) in
     (right .0, (right .1 .0, (right .1 .1, rw (k .columns .ensures) (columns-fit m))))
-
-same-length : tie.Need-same-length
-same-length c = search needs
 
 returns-2 : tie.Need-returns-2
 returns-2 c =
@@ -46,10 +34,10 @@ pub draw-spec : {M : Type 1} → statement M
 draw-spec =
     tie.close
     (tie.spec
-    lengths-picture-requires
-    refused-requires
+    (λ c κs. search needs)
+    (λ c κs. search needs)
     returns
-    columns-requires
+    (λ c κs. search needs)
     draw-rows-requires
-    same-length
+    (λ c. search needs)
     returns-2)

@@ -22,21 +22,6 @@ first-requires c κs = search needs
 loop-holds : tie.Need-loop-holds Inv-loop μ-loop
 loop-holds c = rw (c .first .ensures) (walk-begins _ _ (search needs))
 
-mul-at : tie.Need-mul-at Inv-loop μ-loop
-mul-at c = search needs
-
-add-end : tie.Need-add-end Inv-loop μ-loop
-add-end c = search needs
-
-sub-draw-ahead : tie.Need-sub-draw-ahead Inv-loop μ-loop
-sub-draw-ahead c = search needs
-
-part-draw-ahead-start : tie.Need-part-draw-ahead-start Inv-loop μ-loop
-part-draw-ahead-start c = search needs
-
-part-draw-ahead-end : tie.Need-part-draw-ahead-end Inv-loop μ-loop
-part-draw-ahead-end c = search needs
-
 draw-ahead-requires : tie.Need-draw-ahead-requires Inv-loop μ-loop
 draw-ahead-requires c κs =
     let l = c .before .before in
@@ -49,18 +34,6 @@ add-reads c =
     let l = d .before .before .before in
     let wide = l .before .before .before .before .before .pre .1 .1 .1 in
     omega (arith, sum-fits (l .loop .inv) (d .before .before .loop-test .taken) (d .draw-ahead .ensures .0) wide)
-
-cast-name : tie.Need-cast-name Inv-loop μ-loop
-cast-name c = search needs
-
-name-requires : tie.Need-name-requires Inv-loop μ-loop
-name-requires c κs = search needs
-
-add-row : tie.Need-add-row Inv-loop μ-loop
-add-row c = search needs
-
-loop-less : tie.Need-loop-less Inv-loop μ-loop
-loop-less c = search needs
 
 loop-again : tie.Need-loop-again Inv-loop μ-loop
 loop-again c =
@@ -77,12 +50,6 @@ cast-accepted c =
     let wide = l .before .before .before .before .before .pre .1 .1 .1 in
     omega (arith, count-fits (l .loop .inv) wide)
 
-accepted-requires : tie.Need-accepted-requires Inv-loop μ-loop
-accepted-requires c κs = search needs
-
-same-length : tie.Need-same-length Inv-loop μ-loop
-same-length c = search needs
-
 returns : tie.Need-returns Inv-loop μ-loop
 returns c =
     let l = c .before in
@@ -97,19 +64,19 @@ draw-rows-spec =
     μ-loop
     first-requires
     loop-holds
-    mul-at
-    add-end
-    sub-draw-ahead
-    part-draw-ahead-start
-    part-draw-ahead-end
+    (λ c. search needs)
+    (λ c. search needs)
+    (λ c. search needs)
+    (λ c. search needs)
+    (λ c. search needs)
     draw-ahead-requires
     add-reads
-    cast-name
-    name-requires
-    add-row
-    loop-less
+    (λ c. search needs)
+    (λ c κs. search needs)
+    (λ c. search needs)
+    (λ c. search needs)
     loop-again
     cast-accepted
-    accepted-requires
-    same-length
+    (λ c κs. search needs)
+    (λ c. search needs)
     returns)

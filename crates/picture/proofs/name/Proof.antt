@@ -10,12 +10,6 @@ returns c =
     let a = c .before .args in
     rw (not-true (a .wild) (c .if1 .taken)) (sym (not-wild (a .before) (a .row)))
 
-enum-known-before : tie.Need-enum-known-before
-enum-known-before c = search needs
-
-enum-told : tie.Need-enum-told
-enum-told c = search needs
-
 returns-2 : tie.Need-returns-2
 returns-2 c = rw (c .before .before2 .given .1) refl
 
@@ -25,4 +19,4 @@ returns-3 c =
     rw (c .enum-told .given .1, not-false (e .before .args .wild) (e .if1 .left)) refl
 
 pub name-spec : {M : Type 1} → statement M
-name-spec = tie.close (tie.spec returns enum-known-before enum-told returns-2 returns-3)
+name-spec = tie.close (tie.spec returns (λ c. search needs) (λ c. search needs) returns-2 returns-3)

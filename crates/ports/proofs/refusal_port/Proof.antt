@@ -6,21 +6,6 @@ use Rattle.ports.specs.Ports.{lengthsNvm, refusalPort}
 use Rattle.ports.proofs.refusal_port.Statement.{statement}
 use Rattle.ports.proofs.refusal_port.Tie as tie
 
-two-lengths-requires : tie.Need-two-lengths-requires
-two-lengths-requires c κs = search needs
-
-is-port-requires : tie.Need-is-port-requires
-is-port-requires c κs = search needs
-
-number-if-requires : tie.Need-number-if-requires
-number-if-requires c κs = search needs
-
-stop-of-8088-requires : tie.Need-stop-of-8088-requires
-stop-of-8088-requires c κs = search needs
-
-refusal-requires : tie.Need-refusal-requires
-refusal-requires c κs = search needs
-
 returns : tie.Need-returns
 unfolding lengthsNvm refusalPort
 returns c =
@@ -40,9 +25,9 @@ pub refusal-port-spec : {M : Type 1} → statement M
 refusal-port-spec =
     tie.close
     (tie.spec
-    two-lengths-requires
-    is-port-requires
-    number-if-requires
-    stop-of-8088-requires
-    refusal-requires
+    (λ c κs. search needs)
+    (λ c κs. search needs)
+    (λ c κs. search needs)
+    (λ c κs. search needs)
+    (λ c κs. search needs)
     returns)

@@ -5,32 +5,14 @@ use Rattle.ports.proofs.Laws.{accepted-port, lent-nvm}
 use Rattle.ports.proofs.write_port.Statement.{statement}
 use Rattle.ports.proofs.write_port.Tie as tie
 
-refusal-port-requires : tie.Need-refusal-port-requires
-refusal-port-requires c κs = search needs
-
 returns : tie.Need-returns
 returns c =
     let s = c .before in
     rw (← s .refusal-port .ensures, ne-eqb (s .refusal-port .result) 0 (λ e. omega arith))
 
-write-dc011-requires : tie.Need-write-dc011-requires
-write-dc011-requires c κs = search needs
-
 write-diagnostic-requires : tie.Need-write-diagnostic-requires
 write-diagnostic-requires c κs =
     omega (arith, lent-nvm _ _ _ _ (c .before .before .before .before .refusal-port .ensures) (λ e. omega arith))
-
-write-dc012-requires : tie.Need-write-dc012-requires
-write-dc012-requires c κs = search needs
-
-watched-requires : tie.Need-watched-requires
-watched-requires c κs = search needs
-
-write-dc012-requires-2 : tie.Need-write-dc012-requires-2
-write-dc012-requires-2 c κs = search needs
-
-watched-requires-2 : tie.Need-watched-requires-2
-watched-requires-2 c κs = search needs
 
 returns-2 : tie.Need-returns-2
 returns-2 c =
@@ -40,12 +22,6 @@ returns-2 c =
       arm .match .keys1,
       c .write-dc011 .ensures,
     )
-
-same-length : tie.Need-same-length
-same-length c = search needs
-
-same-length-2 : tie.Need-same-length-2
-same-length-2 c = search needs
 
 returns-3 : tie.Need-returns-3
 returns-3 c =
@@ -81,17 +57,17 @@ pub write-port-spec : {M : Type 1} → statement M
 write-port-spec =
     tie.close
     (tie.spec
-    refusal-port-requires
+    (λ c κs. search needs)
     returns
-    write-dc011-requires
+    (λ c κs. search needs)
     write-diagnostic-requires
-    write-dc012-requires
-    watched-requires
-    write-dc012-requires-2
-    watched-requires-2
+    (λ c κs. search needs)
+    (λ c κs. search needs)
+    (λ c κs. search needs)
+    (λ c κs. search needs)
     returns-2
-    same-length
-    same-length-2
+    (λ c. search needs)
+    (λ c. search needs)
     returns-3
     returns-4
     returns-5)

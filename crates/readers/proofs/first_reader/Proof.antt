@@ -14,14 +14,8 @@ Inv-loop columns screen attribute seen ahead₀ row₀ ahead row = Seeking (chai
 abbrev μ-loop : tie.MeasureT-loop
 μ-loop columns screen attribute seen ahead₀ row₀ ahead row = rows - row
 
-on-screen-requires : tie.Need-on-screen-requires Inv-loop μ-loop
-on-screen-requires c κs = search needs
-
 returns : tie.Need-returns Inv-loop μ-loop
 returns c = none-found _ _ _ (sym (c .before .on-screen .ensures) ∙ not-true _ (c .if1 .taken))
-
-first-requires : tie.Need-first-requires Inv-loop μ-loop
-first-requires c κs = search needs
 
 loop-holds : tie.Need-loop-holds Inv-loop μ-loop
 loop-holds c = rw (c .first .ensures) (seek-begins _ _)
@@ -39,9 +33,6 @@ returns-2 c = seek-ends (c .before .before .before .loop .inv) (c .before .befor
 add-row : tie.Need-add-row Inv-loop μ-loop
 add-row c = search needs
 
-loop-less : tie.Need-loop-less Inv-loop μ-loop
-loop-less c = search needs
-
 loop-again : tie.Need-loop-again Inv-loop μ-loop
 loop-again c = seek-goes-on (c .before .before .before .loop .inv) (c .before .before .loop-test .taken) (c .before .pass .ensures) (c .if2 .left)
 
@@ -54,13 +45,13 @@ first-reader-spec =
     (tie.spec
     Inv-loop
     μ-loop
-    on-screen-requires
+    (λ c κs. search needs)
     returns
-    first-requires
+    (λ c κs. search needs)
     loop-holds
     pass-requires
     returns-2
     add-row
-    loop-less
+    (λ c. search needs)
     loop-again
     returns-3)

@@ -6,17 +6,11 @@ use Rattle.readers.proofs.Laws.{none-read}
 use Rattle.readers.proofs.pass.Statement.{statement}
 use Rattle.readers.proofs.pass.Tie as tie
 
-enum-known-ahead : tie.Need-enum-known-ahead
-enum-known-ahead c = search needs
-
 pass-row-requires : tie.Need-pass-row-requires
 pass-row-requires c κs =
     let h = c .before in
     let p = h .before .before .before .before .pre in
     (p .0, (p .1 .0, ((p .1 .1 .0 .0, subst Placed (h .ahead .given .1) (p .1 .1 .0 .1)), p .1 .1 .1)))
-
-enum-told : tie.Need-enum-told
-enum-told c = search needs
 
 returns : tie.Need-returns
 returns c =
@@ -28,4 +22,4 @@ unfolding screenRead attributeRead
 returns-2 c = rw (c .enum-told .given .1, none-read (c .before .before .before .before .args .seen))
 
 pub pass-spec : {M : Type 1} → statement M
-pass-spec = tie.close (tie.spec enum-known-ahead pass-row-requires enum-told returns returns-2)
+pass-spec = tie.close (tie.spec (λ c. search needs) pass-row-requires (λ c. search needs) returns returns-2)

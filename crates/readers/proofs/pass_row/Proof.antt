@@ -9,21 +9,6 @@ use Rattle.readers.proofs.Laws.{whole-fits}
 use Rattle.readers.proofs.pass_row.Statement.{statement}
 use Rattle.readers.proofs.pass_row.Tie as tie
 
-capacity-requires : tie.Need-capacity-requires
-capacity-requires c κs = search needs
-
-find-terminator-requires : tie.Need-find-terminator-requires
-find-terminator-requires c κs = search needs
-
-enum-known-cells : tie.Need-enum-known-cells
-enum-known-cells c = search needs
-
-enum-told : tie.Need-enum-told
-enum-told c = search needs
-
-torn-reads-requires : tie.Need-torn-reads-requires
-torn-reads-requires c κs = search needs
-
 returns : tie.Need-returns
 unfolding screenRead attributeRead
 returns c =
@@ -66,11 +51,11 @@ pub pass-row-spec : {M : Type 1} → statement M
 pass-row-spec =
     tie.close
     (tie.spec
-    capacity-requires
-    find-terminator-requires
-    enum-known-cells
-    enum-told
-    torn-reads-requires
+    (λ c κs. search needs)
+    (λ c κs. search needs)
+    (λ c. search needs)
+    (λ c. search needs)
+    (λ c κs. search needs)
     returns
     whole-reads-requires
     add-link

@@ -7,25 +7,10 @@ use Rattle.readers.proofs.Laws.{among-both, from-over}
 use Rattle.readers.proofs.whole_reads.Statement.{statement}
 use Rattle.readers.proofs.whole_reads.Tie as tie
 
-enum-known-seen : tie.Need-enum-known-seen
-enum-known-seen c = search needs
-
-add-among : tie.Need-add-among
-add-among c = search needs
-
 among-requires : tie.Need-among-requires
 among-requires c κs =
     let s = c .before .before .before in
     (subst InMemory (c .before .seen .given .1) (s .pre .0), (s .pre .1 .0, omega arith))
-
-enum-known-seen-2 : tie.Need-enum-known-seen-2
-enum-known-seen-2 c = search needs
-
-add-low : tie.Need-add-low
-add-low c = search needs
-
-add-low-2 : tie.Need-add-low-2
-add-low-2 c = search needs
 
 among-requires-2 : tie.Need-among-requires-2
 among-requires-2 c κs =
@@ -36,12 +21,6 @@ among-requires-3 : tie.Need-among-requires-3
 among-requires-3 c κs =
     let t = c .before .before .before in
     (subst InMemory (t .seen2 .given .1) (t .before .before .pre .0), (mod-lt _ (omega arith), omega arith))
-
-enum-told : tie.Need-enum-told
-enum-told c = search needs
-
-enum-told-2 : tie.Need-enum-told-2
-enum-told-2 c = search needs
 
 returns : tie.Need-returns
 returns c = rw (c .before .before .seen .given .1) (c .among .ensures)
@@ -66,16 +45,16 @@ pub whole-reads-spec : {M : Type 1} → statement M
 whole-reads-spec =
     tie.close
     (tie.spec
-    enum-known-seen
-    add-among
+    (λ c. search needs)
+    (λ c. search needs)
     among-requires
-    enum-known-seen-2
-    add-low
-    add-low-2
+    (λ c. search needs)
+    (λ c. search needs)
+    (λ c. search needs)
     among-requires-2
     among-requires-3
-    enum-told
-    enum-told-2
+    (λ c. search needs)
+    (λ c. search needs)
     returns
     returns-2
     returns-3

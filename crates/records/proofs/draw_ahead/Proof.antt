@@ -10,27 +10,15 @@ use Rattle.records.specs.Inner.{walked, drawnAhead}
 use Rattle.records.proofs.draw_ahead.Statement.{statement}
 use Rattle.records.proofs.draw_ahead.Tie as tie
 
-enum-known-ahead : tie.Need-enum-known-ahead
-enum-known-ahead c = search needs
-
 draw-row-requires : tie.Need-draw-row-requires
 draw-row-requires c κs =
     let p = c .before .before .before .before .before .before .before .pre in
     (p .0, (p .1 .0, ((p .1 .1 .0 .0, subst Placed (c .before .before .ahead .given .1) (p .1 .1 .0 .1)), p .1 .1 .1)))
 
-enum-told : tie.Need-enum-told
-enum-told c = search needs
-
-first-requires : tie.Need-first-requires
-first-requires c κs = search needs
-
 finish-requires : tie.Need-finish-requires
 finish-requires c κs =
     let p = c .before .before .before .before .before .before .before .pre in
     ((rw (c .first .ensures) (omega arith), omega arith), p .1 .1 .1)
-
-same-length : tie.Need-same-length
-same-length c = search needs
 
 returns : tie.Need-returns
 returns c =
@@ -40,9 +28,6 @@ returns c =
     let k = chain (a .columns) (a .screen .now) (a .attribute .now) in
     let to = sym (h .ahead .given .1) in
     (d .draw-row .ensures .0 ∙ ap (walked k) to, d .draw-row .ensures .1 ∙ ap (drawnAhead k) to)
-
-same-length-2 : tie.Need-same-length-2
-same-length-2 c = search needs
 
 returns-2 : tie.Need-returns-2
 unfolding reads wild recordOf cellPairs
@@ -55,12 +40,12 @@ pub draw-ahead-spec : {M : Type 1} → statement M
 draw-ahead-spec =
     tie.close
     (tie.spec
-    enum-known-ahead
+    (λ c. search needs)
     draw-row-requires
-    enum-told
-    first-requires
+    (λ c. search needs)
+    (λ c κs. search needs)
     finish-requires
-    same-length
+    (λ c. search needs)
     returns
-    same-length-2
+    (λ c. search needs)
     returns-2)

@@ -6,27 +6,6 @@ use Rattle.records.proofs.Rows.{cells-fit, torn-walked, torn-drawn, who
 use Rattle.records.proofs.draw_row.Statement.{statement}
 use Rattle.records.proofs.draw_row.Tie as tie
 
-capacity-requires : tie.Need-capacity-requires
-capacity-requires c κs = search needs
-
-draw-to-terminator-requires : tie.Need-draw-to-terminator-requires
-draw-to-terminator-requires c κs = search needs
-
-enum-known-cells : tie.Need-enum-known-cells
-enum-known-cells c = search needs
-
-enum-told : tie.Need-enum-told
-enum-told c = search needs
-
-finish-requires : tie.Need-finish-requires
-finish-requires c κs = search needs
-
-add-t14 : tie.Need-add-t14
-add-t14 c = search needs
-
-same-length : tie.Need-same-length
-same-length c = search needs
-
 returns : tie.Need-returns
 returns c =
     let e = c .before .before .before .before in
@@ -55,9 +34,6 @@ end-row-requires c κs =
       ),
     )
 
-same-length-2 : tie.Need-same-length-2
-same-length-2 c = search needs
-
 returns-2 : tie.Need-returns-2
 returns-2 c =
     let w = c .before .before in
@@ -75,14 +51,14 @@ pub draw-row-spec : {M : Type 1} → statement M
 draw-row-spec =
     tie.close
     (tie.spec
-    capacity-requires
-    draw-to-terminator-requires
-    enum-known-cells
-    enum-told
-    finish-requires
-    add-t14
-    same-length
+    (λ c κs. search needs)
+    (λ c κs. search needs)
+    (λ c. search needs)
+    (λ c. search needs)
+    (λ c κs. search needs)
+    (λ c. search needs)
+    (λ c. search needs)
     returns
     end-row-requires
-    same-length-2
+    (λ c. search needs)
     returns-2)

@@ -15,80 +15,23 @@ Inv-loop screen attribute start capacity into₀ room cell₀ into cell = Passed
 abbrev μ-loop : tie.MeasureT-loop
 μ-loop screen attribute start capacity into₀ room cell₀ into cell = room - cell
 
-before-the-end-requires : tie.Need-before-the-end-requires Inv-loop μ-loop
-before-the-end-requires c κs = search needs
-
 loop-holds : tie.Need-loop-holds Inv-loop μ-loop
 loop-holds c = none-passed (search needs)
-
-add-loop : tie.Need-add-loop Inv-loop μ-loop
-add-loop c = search needs
-
-add-place : tie.Need-add-place Inv-loop μ-loop
-add-place c = search needs
-
-shared-slice-read-first : tie.Need-shared-slice-read-first Inv-loop μ-loop
-shared-slice-read-first c = search needs
-
-same-length : tie.Need-same-length Inv-loop μ-loop
-same-length c = search needs
 
 returns : tie.Need-returns Inv-loop μ-loop
 returns c = c .before .before .before .loop .inv
 
-add-second : tie.Need-add-second Inv-loop μ-loop
-add-second c = search needs
-
-shared-slice-read-second : tie.Need-shared-slice-read-second Inv-loop μ-loop
-shared-slice-read-second c = search needs
-
-same-length-2 : tie.Need-same-length-2 Inv-loop μ-loop
-same-length-2 c = search needs
-
 returns-2 : tie.Need-returns-2 Inv-loop μ-loop
 returns-2 c = c .before .before .before .before .before .loop .inv
-
-mul-at : tie.Need-mul-at Inv-loop μ-loop
-mul-at c = search needs
-
-add-at : tie.Need-add-at Inv-loop μ-loop
-add-at c = search needs
-
-slice-write-into : tie.Need-slice-write-into Inv-loop μ-loop
-slice-write-into c = search needs
-
-shared-slice-read-into : tie.Need-shared-slice-read-into Inv-loop μ-loop
-shared-slice-read-into c = search needs
-
-add-into : tie.Need-add-into Inv-loop μ-loop
-add-into c = search needs
 
 slice-write-into-2 : tie.Need-slice-write-into-2 Inv-loop μ-loop
 slice-write-into-2 c = simp length-set (omega arith)
 
-add-into-2 : tie.Need-add-into-2 Inv-loop μ-loop
-add-into-2 c = search needs
-
 slice-write-into-3 : tie.Need-slice-write-into-3 Inv-loop μ-loop
 slice-write-into-3 c = simp length-set (omega arith)
 
-add-into-3 : tie.Need-add-into-3 Inv-loop μ-loop
-add-into-3 c = search needs
-
-shared-slice-read-into-2 : tie.Need-shared-slice-read-into-2 Inv-loop μ-loop
-shared-slice-read-into-2 c = search needs
-
-add-into-4 : tie.Need-add-into-4 Inv-loop μ-loop
-add-into-4 c = search needs
-
 slice-write-into-4 : tie.Need-slice-write-into-4 Inv-loop μ-loop
 slice-write-into-4 c = simp length-set (omega arith)
-
-add-cell : tie.Need-add-cell Inv-loop μ-loop
-add-cell c = search needs
-
-loop-less : tie.Need-loop-less Inv-loop μ-loop
-loop-less c = search needs
 
 loop-again : tie.Need-loop-again Inv-loop μ-loop
 loop-again c =
@@ -101,9 +44,6 @@ loop-again c =
     (straight (a .attribute .now) at (omega arith)) (straight (a .attribute .now) (at + 1) (omega arith))
     (second .before .before .if1 .left) (second .if2 .left)
 
-same-length-3 : tie.Need-same-length-3 Inv-loop μ-loop
-same-length-3 c = search needs
-
 returns-3 : tie.Need-returns-3 Inv-loop μ-loop
 returns-3 c = c .before .loop .inv
 
@@ -113,31 +53,31 @@ draw-straight-spec =
     (tie.spec
     Inv-loop
     μ-loop
-    before-the-end-requires
+    (λ c κs. search needs)
     loop-holds
-    add-loop
-    add-place
-    shared-slice-read-first
-    same-length
+    (λ c. search needs)
+    (λ c. search needs)
+    (λ c. search needs)
+    (λ c. search needs)
     returns
-    add-second
-    shared-slice-read-second
-    same-length-2
+    (λ c. search needs)
+    (λ c. search needs)
+    (λ c. search needs)
     returns-2
-    mul-at
-    add-at
-    slice-write-into
-    shared-slice-read-into
-    add-into
+    (λ c. search needs)
+    (λ c. search needs)
+    (λ c. search needs)
+    (λ c. search needs)
+    (λ c. search needs)
     slice-write-into-2
-    add-into-2
+    (λ c. search needs)
     slice-write-into-3
-    add-into-3
-    shared-slice-read-into-2
-    add-into-4
+    (λ c. search needs)
+    (λ c. search needs)
+    (λ c. search needs)
     slice-write-into-4
-    add-cell
-    loop-less
+    (λ c. search needs)
+    (λ c. search needs)
     loop-again
-    same-length-3
+    (λ c. search needs)
     returns-3)

@@ -16,32 +16,11 @@ abbrev μ-loop : tie.MeasureT-loop
 loop-holds : tie.Need-loop-holds Inv-loop μ-loop
 loop-holds c = none-filled _ _ (search needs) (search needs)
 
-mul-at : tie.Need-mul-at Inv-loop μ-loop
-mul-at c = search needs
-
-add-at : tie.Need-add-at Inv-loop μ-loop
-add-at c = search needs
-
-slice-write-into : tie.Need-slice-write-into Inv-loop μ-loop
-slice-write-into c = search needs
-
-add-into : tie.Need-add-into Inv-loop μ-loop
-add-into c = search needs
-
 slice-write-into-2 : tie.Need-slice-write-into-2 Inv-loop μ-loop
 slice-write-into-2 c = simp length-set (omega arith)
 
-add-pair : tie.Need-add-pair Inv-loop μ-loop
-add-pair c = search needs
-
-loop-less : tie.Need-loop-less Inv-loop μ-loop
-loop-less c = search needs
-
 loop-again : tie.Need-loop-again Inv-loop μ-loop
 loop-again c = one-filled _ _ _ _ (c .before .loop .inv) (omega arith)
-
-same-length : tie.Need-same-length Inv-loop μ-loop
-same-length c = search needs
 
 returns : tie.Need-returns Inv-loop μ-loop
 returns c = all-filled _ _ _ _ (c .before .loop .inv) (omega arith)
@@ -53,13 +32,13 @@ fill-spec =
     Inv-loop
     μ-loop
     loop-holds
-    mul-at
-    add-at
-    slice-write-into
-    add-into
+    (λ c. search needs)
+    (λ c. search needs)
+    (λ c. search needs)
+    (λ c. search needs)
     slice-write-into-2
-    add-pair
-    loop-less
+    (λ c. search needs)
+    (λ c. search needs)
     loop-again
-    same-length
+    (λ c. search needs)
     returns)

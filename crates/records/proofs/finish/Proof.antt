@@ -6,15 +6,6 @@ use Rattle.records.specs.Record.{header}
 use Rattle.records.proofs.finish.Statement.{statement}
 use Rattle.records.proofs.finish.Tie as tie
 
-fill-requires : tie.Need-fill-requires
-fill-requires c κs = search needs
-
-write-head-requires : tie.Need-write-head-requires
-write-head-requires c κs = search needs
-
-same-length : tie.Need-same-length
-same-length c = search needs
-
 returns : tie.Need-returns
 returns c =
     let s = c .before .before in
@@ -23,4 +14,4 @@ returns c =
     s .write-head .ensures ∙ ap (λ (l : List ℕ). header (a .head) (a .count) ++ l) (f .fill .ensures)
 
 pub finish-spec : {M : Type 1} → statement M
-finish-spec = tie.close (tie.spec fill-requires write-head-requires same-length returns)
+finish-spec = tie.close (tie.spec (λ c κs. search needs) (λ c κs. search needs) (λ c. search needs) returns)

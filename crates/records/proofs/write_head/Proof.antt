@@ -6,26 +6,11 @@ use Rattle.records.proofs.Laws.{head-stored}
 use Rattle.records.proofs.write_head.Statement.{statement}
 use Rattle.records.proofs.write_head.Tie as tie
 
-cast-into : tie.Need-cast-into
-cast-into c = search needs
-
-slice-write-into : tie.Need-slice-write-into
-slice-write-into c = search needs
-
-cast-into-2 : tie.Need-cast-into-2
-cast-into-2 c = search needs
-
 slice-write-into-2 : tie.Need-slice-write-into-2
 slice-write-into-2 c = simp length-set (omega arith)
 
 slice-write-into-3 : tie.Need-slice-write-into-3
 slice-write-into-3 c = simp length-set (omega arith)
-
-slice-write-into-4 : tie.Need-slice-write-into-4
-slice-write-into-4 c = search needs
-
-same-length : tie.Need-same-length
-same-length c = search needs
 
 returns : tie.Need-returns
 returns c =
@@ -36,11 +21,11 @@ pub write-head-spec : {M : Type 1} → statement M
 write-head-spec =
     tie.close
     (tie.spec
-    cast-into
-    slice-write-into
-    cast-into-2
+    (λ c. search needs)
+    (λ c. search needs)
+    (λ c. search needs)
     slice-write-into-2
     slice-write-into-3
-    slice-write-into-4
-    same-length
+    (λ c. search needs)
+    (λ c. search needs)
     returns)

@@ -1,18 +1,19 @@
 use Prim.Native.Nat.{_+_, _-_, _*_, _≤_, _<_}
-use mathlib.Core.Path.{_≡_, refl, sym, _∙_}
-use mathlib.Core.Bool.{true}
+use mathlib.Core.Path.{_≡_, refl, sym, ap, _∙_}
+use mathlib.Core.Bool.{Bool, true, not, cond}
 use native.Mathlib.Omega.{arith}
 use lib.ListN.{length}
-use borrow.Author.Tests.{ne-eqb}
+use borrow.Author.Tests.{ne-eqb, not-false}
 use borrow.Author.Needs.{needs}
 use denote.Ref.{now}
-use Rattle.lent.specs.Refusals.{accepted}
+use Rattle.lent.specs.Refusals.{accepted, placeRefused}
+use Rattle.lent.proofs.Order.{told, passed}
 use Rattle.chain.specs.Chain.{rows}
 use Rattle.records.specs.Record.{recordBytes}
 use Rattle.picture.specs.Picture.{recordIn}
 use Rattle.picture.proofs.Records.{record-lent}
 use Rattle.scan_line.specs.Call.{lengthsLine, onTube, refusalLine}
-use Rattle.scan_line.proofs.Laws.{lentLine, placed, told, passed}
+use Rattle.scan_line.proofs.Laws.{lentLine, placed}
 use Rattle.scan_line.proofs.draw.Statement.{statement}
 use Rattle.scan_line.proofs.draw.Tie as tie
 
@@ -26,25 +27,18 @@ number :
 number a =
     let own = a .before in
     let on = own .before in
-    told (on .before .lengths-line .ensures) (on .is-on-tube .ensures) (own .number-if .ensures) (a .refusal .ensures)
+    told (not (onTube (asked a .args .row) (asked a .args .scan))) placeRefused (on .before .lengths-line .ensures)
+    (own .number-if .ensures ∙ ap (λ (b : Bool). cond (not b) placeRefused accepted) (on .is-on-tube .ensures))
+    (a .refusal .ensures)
 
 tests :
     (a : tie.After-refusal) → a .refusal .result ≡ accepted → let args = asked a .args in
     (lengthsLine (length (now (args .picture))) (length (now (args .table))) (length (now (args .line))) ≡ true)
     × (onTube (args .row) (args .scan) ≡ true)
-tests a h = let args = asked a .args in passed _ (onTube (args .row) (args .scan)) (sym (number a) ∙ h)
-
-lengths-line-requires : tie.Need-lengths-line-requires
-lengths-line-requires c κs = search needs
-
-is-on-tube-requires : tie.Need-is-on-tube-requires
-is-on-tube-requires c κs = search needs
-
-number-if-requires : tie.Need-number-if-requires
-number-if-requires c κs = search needs
-
-refusal-requires : tie.Need-refusal-requires
-refusal-requires c κs = search needs
+tests a h =
+    let args = asked a .args in
+    let both = passed _ (not (onTube (args .row) (args .scan))) placeRefused (λ e. omega (arith, e)) (sym (number a) ∙ h) in
+    (both .0, not-false _ (both .1))
 
 returns : tie.Need-returns
 returns c = let a = c .before in rw (← number a, ne-eqb (a .refusal .result) 0 (λ e. omega arith)) refl
@@ -54,12 +48,6 @@ mul-at c = omega (arith, placed (tests (c .before) (omega arith) .1))
 
 add-draw-record : tie.Need-add-draw-record
 add-draw-record c = omega (arith, placed (tests (c .before) (omega arith) .1))
-
-sub-draw-record : tie.Need-sub-draw-record
-sub-draw-record c = search needs
-
-part-draw-record-start : tie.Need-part-draw-record-start
-part-draw-record-start c = search needs
 
 part-draw-record-end : tie.Need-part-draw-record-end
 part-draw-record-end c =
@@ -75,9 +63,6 @@ draw-record-requires c κs =
     let place = placed (both .1) in
     (record-lent (now (args .picture)) (args .row) (lent .0) (place .0), (lent .1 .0, (place .1, lent .1 .1)))
 
-same-length : tie.Need-same-length
-same-length c = search needs
-
 returns-2 : tie.Need-returns-2
 unfolding recordIn
 returns-2 c =
@@ -92,16 +77,16 @@ pub draw-spec : {M : Type 1} → statement M
 draw-spec =
     tie.close
     (tie.spec
-    lengths-line-requires
-    is-on-tube-requires
-    number-if-requires
-    refusal-requires
+    (λ c κs. search needs)
+    (λ c κs. search needs)
+    (λ c κs. search needs)
+    (λ c κs. search needs)
     returns
     mul-at
     add-draw-record
-    sub-draw-record
-    part-draw-record-start
+    (λ c. search needs)
+    (λ c. search needs)
     part-draw-record-end
     draw-record-requires
-    same-length
+    (λ c. search needs)
     returns-2)

@@ -4,38 +4,17 @@ use Rattle.scan_line.specs.Line.{lineOf}
 use Rattle.scan_line.proofs.draw_record.Statement.{statement}
 use Rattle.scan_line.proofs.draw_record.Tie as tie
 
-shared-slice-read-shows-nothing : tie.Need-shared-slice-read-shows-nothing
-shared-slice-read-shows-nothing c = search needs
-
-shows-nothing-requires : tie.Need-shows-nothing-requires
-shows-nothing-requires c κs = search needs
-
-clear-requires : tie.Need-clear-requires
-clear-requires c κs = search needs
-
-same-length : tie.Need-same-length
-same-length c = search needs
-
 returns : tie.Need-returns
 unfolding lineOf
 returns c =
     let t = c .before .before .before .before in
     rw (c .before .before .clear .ensures, sym (t .before .shows-nothing .ensures) ∙ t .if1 .taken) refl
 
-draw-row-requires : tie.Need-draw-row-requires
-draw-row-requires c κs = search needs
-
-dots-of-line-requires : tie.Need-dots-of-line-requires
-dots-of-line-requires c κs = search needs
-
 clear-requires-2 : tie.Need-clear-requires-2
 clear-requires-2 c κs =
     let d = c .before .before .before .before in
     let s = d .before .before .before .before .before .before .before .before in
     (d .draw-row .kept .1 .1 .1 .1 .0 ∙ s .pre .1 .1 .1, c .dots-of-line .ensures .1)
-
-same-length-2 : tie.Need-same-length-2
-same-length-2 c = search needs
 
 returns-2 : tie.Need-returns-2
 unfolding lineOf
@@ -55,13 +34,13 @@ pub draw-record-spec : {M : Type 1} → statement M
 draw-record-spec =
     tie.close
     (tie.spec
-    shared-slice-read-shows-nothing
-    shows-nothing-requires
-    clear-requires
-    same-length
+    (λ c. search needs)
+    (λ c κs. search needs)
+    (λ c κs. search needs)
+    (λ c. search needs)
     returns
-    draw-row-requires
-    dots-of-line-requires
+    (λ c κs. search needs)
+    (λ c κs. search needs)
     clear-requires-2
-    same-length-2
+    (λ c. search needs)
     returns-2)

@@ -18,24 +18,6 @@ Inv-loop machine bytes table scan line₀ kind shown address width cells cell₀
 abbrev μ-loop : tie.MeasureT-loop
 μ-loop machine bytes table scan line₀ kind shown address width cells cell₀ line cell = cells - cell
 
-shared-slice-read-kind : tie.Need-shared-slice-read-kind Inv-loop μ-loop
-shared-slice-read-kind c = search needs
-
-glyph-scan-requires : tie.Need-glyph-scan-requires Inv-loop μ-loop
-glyph-scan-requires c κs = search needs
-
-scan-address-requires : tie.Need-scan-address-requires Inv-loop μ-loop
-scan-address-requires c κs = search needs
-
-cell-width-requires : tie.Need-cell-width-requires Inv-loop μ-loop
-cell-width-requires c κs = search needs
-
-columns-requires : tie.Need-columns-requires Inv-loop μ-loop
-columns-requires c κs = search needs
-
-capacity-requires : tie.Need-capacity-requires Inv-loop μ-loop
-capacity-requires c κs = search needs
-
 loop-holds : tie.Need-loop-holds Inv-loop μ-loop
 loop-holds c =
     let s = c .before .before .before .before .before .before .before .before .before in
@@ -58,9 +40,6 @@ add-pair c = search (needs, c .before .loop .inv .ahead .few)
 shared-slice-read-byte : tie.Need-shared-slice-read-byte Inv-loop μ-loop
 shared-slice-read-byte c = search (needs, c .before .before .loop .inv .ahead .few)
 
-byte-requires : tie.Need-byte-requires Inv-loop μ-loop
-byte-requires c κs = search needs
-
 add-attribute : tie.Need-add-attribute Inv-loop μ-loop
 add-attribute c = search (needs, c .before .before .before .loop .inv .ahead .few)
 
@@ -77,12 +56,6 @@ add-end c =
     let l = c .before .before .before in
     omega (arith, cell-room (l .before .loop .inv) (l .loop-test .taken), l .before .loop .inv .same)
 
-sub-draw-cell : tie.Need-sub-draw-cell Inv-loop μ-loop
-sub-draw-cell c = search needs
-
-part-draw-cell-start : tie.Need-part-draw-cell-start Inv-loop μ-loop
-part-draw-cell-start c = search needs
-
 part-draw-cell-end : tie.Need-part-draw-cell-end Inv-loop μ-loop
 part-draw-cell-end c =
     let l = c .before .before .before in
@@ -94,12 +67,6 @@ draw-cell-requires c κs =
     let a = c .before .before .before .before .before .loop .inv in
     part-lent _ _ _ (cell-room a (l .loop-test .taken)) ∙ a .ahead .is-width
 
-add-cell : tie.Need-add-cell Inv-loop μ-loop
-add-cell c = search needs
-
-loop-less : tie.Need-loop-less Inv-loop μ-loop
-loop-less c = search needs
-
 loop-again : tie.Need-loop-again Inv-loop μ-loop
 loop-again c =
     let d = c .before .before in
@@ -107,9 +74,6 @@ loop-again c =
     let a = l .before .loop .inv in
     row-goes-on a (l .loop-test .taken) (d .draw-cell .ensures) (d .before .before .before .byte .ensures)
     (d .draw-cell .kept .1 .1 .1 .1 .1 .0 ∙ part-lent _ _ _ (cell-room a (l .loop-test .taken)))
-
-same-length : tie.Need-same-length Inv-loop μ-loop
-same-length c = search needs
 
 returns : tie.Need-returns Inv-loop μ-loop
 returns c = row-ends (c .before .loop .inv) (c .loop-test .left)
@@ -120,27 +84,27 @@ draw-row-spec =
     (tie.spec
     Inv-loop
     μ-loop
-    shared-slice-read-kind
-    glyph-scan-requires
-    scan-address-requires
-    cell-width-requires
-    columns-requires
-    capacity-requires
+    (λ c. search needs)
+    (λ c κs. search needs)
+    (λ c κs. search needs)
+    (λ c κs. search needs)
+    (λ c κs. search needs)
+    (λ c κs. search needs)
     loop-holds
     mul-pair
     add-pair
     shared-slice-read-byte
-    byte-requires
+    (λ c κs. search needs)
     add-attribute
     shared-slice-read-attribute
     mul-at
     add-end
-    sub-draw-cell
-    part-draw-cell-start
+    (λ c. search needs)
+    (λ c. search needs)
     part-draw-cell-end
     draw-cell-requires
-    add-cell
-    loop-less
+    (λ c. search needs)
+    (λ c. search needs)
     loop-again
-    same-length
+    (λ c. search needs)
     returns)

@@ -4,15 +4,9 @@ use Rattle.scan_line.specs.Line.{showsNothing}
 use Rattle.scan_line.proofs.shows_nothing.Statement.{statement}
 use Rattle.scan_line.proofs.shows_nothing.Tie as tie
 
-blanked-requires : tie.Need-blanked-requires
-blanked-requires c κs = search needs
-
 returns : tie.Need-returns
 unfolding showsNothing
 returns c = rw (sym (c .before .blanked .ensures) ∙ c .if1 .taken) refl
-
-graphics-requires : tie.Need-graphics-requires
-graphics-requires c κs = search needs
 
 returns-2 : tie.Need-returns-2
 unfolding showsNothing
@@ -28,4 +22,4 @@ returns-3 c =
 
 pub shows-nothing-spec : {M : Type 1} → statement M
 shows-nothing-spec =
-    tie.close (tie.spec blanked-requires returns graphics-requires returns-2 returns-3)
+    tie.close (tie.spec (λ c κs. search needs) returns (λ c κs. search needs) returns-2 returns-3)

@@ -5,12 +5,6 @@ use Rattle.shadow.proofs.Laws.{in-shadow, accepted-shadow}
 use Rattle.shadow.proofs.read_shadow.Statement.{statement}
 use Rattle.shadow.proofs.read_shadow.Tie as tie
 
-refusal-shadow-requires : tie.Need-refusal-shadow-requires
-refusal-shadow-requires c κs = search needs
-
-read-refused-requires : tie.Need-read-refused-requires
-read-refused-requires c κs = search needs
-
 returns : tie.Need-returns
 returns c =
     let s = c .before .before in
@@ -20,9 +14,6 @@ shared-slice-read-byte-read : tie.Need-shared-slice-read-byte-read
 shared-slice-read-byte-read c =
     omega (arith, in-shadow _ _ _ (c .before .before .refusal-shadow .ensures) (omega arith))
 
-byte-read-requires : tie.Need-byte-read-requires
-byte-read-requires c κs = search needs
-
 returns-2 : tie.Need-returns-2
 returns-2 c =
     rw (accepted-shadow _ _ _ (c .before .before .before .refusal-shadow .ensures) (omega arith)) (c .byte-read .ensures)
@@ -31,9 +22,9 @@ pub read-shadow-spec : {M : Type 1} → statement M
 read-shadow-spec =
     tie.close
     (tie.spec
-    refusal-shadow-requires
-    read-refused-requires
+    (λ c κs. search needs)
+    (λ c κs. search needs)
     returns
     shared-slice-read-byte-read
-    byte-read-requires
+    (λ c κs. search needs)
     returns-2)

@@ -8,15 +8,6 @@ use Rattle.shadow.specs.Shadow.{refusedPlace}
 use Rattle.shadow.proofs.refusal_shadow.Statement.{statement}
 use Rattle.shadow.proofs.refusal_shadow.Tie as tie
 
-number-if-requires : tie.Need-number-if-requires
-number-if-requires c κs = search needs
-
-stop-of-8088-requires : tie.Need-stop-of-8088-requires
-stop-of-8088-requires c κs = search needs
-
-refusal-requires : tie.Need-refusal-requires
-refusal-requires c κs = search needs
-
 returns : tie.Need-returns
 unfolding refusedPlace
 returns c =
@@ -26,4 +17,4 @@ returns c =
     (stopped-first (eqb (args .bytes) shadowBytes) inResetRefused (args .machine .reset) _ refl)
 
 pub refusal-shadow-spec : {M : Type 1} → statement M
-refusal-shadow-spec = tie.close (tie.spec number-if-requires stop-of-8088-requires refusal-requires returns)
+refusal-shadow-spec = tie.close (tie.spec (λ c κs. search needs) (λ c κs. search needs) (λ c κs. search needs) returns)

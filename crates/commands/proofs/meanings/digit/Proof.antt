@@ -6,14 +6,8 @@ use Rattle.commands.proofs.Digits.{among-bounds}
 use Rattle.commands.proofs.meanings.digit.Statement.{statement}
 use Rattle.commands.proofs.meanings.digit.Tie as tie
 
-among-requires : tie.Need-among-requires
-among-requires c κs = search needs
-
 sub-result : tie.Need-sub-result
 sub-result c = among-bounds 0x30 0x39 (c .before .before .args .byte) (c .before .among .ensures) (c .if1 .taken) .0
-
-cast-result : tie.Need-cast-result
-cast-result c = search needs
 
 returns : tie.Need-returns
 unfolding digit
@@ -23,17 +17,8 @@ returns c =
       omega arith,
     )
 
-among-requires-2 : tie.Need-among-requires-2
-among-requires-2 c κs = search needs
-
 sub-result-2 : tie.Need-sub-result-2
 sub-result-2 c = among-bounds 0x41 0x46 (c .before .before .before .before .args .byte) (c .before .among2 .ensures) (c .if2 .taken) .0
-
-cast-result-2 : tie.Need-cast-result-2
-cast-result-2 c = search needs
-
-add-result : tie.Need-add-result
-add-result c = search needs
 
 returns-2 : tie.Need-returns-2
 unfolding digit
@@ -48,17 +33,8 @@ returns-2 c =
       omega arith,
     )
 
-among-requires-3 : tie.Need-among-requires-3
-among-requires-3 c κs = search needs
-
 sub-result-3 : tie.Need-sub-result-3
 sub-result-3 c = among-bounds 0x61 0x66 (c .before .before .before .before .before .before .args .byte) (c .before .among3 .ensures) (c .if3 .taken) .0
-
-cast-result-3 : tie.Need-cast-result-3
-cast-result-3 c = search needs
-
-add-result-2 : tie.Need-add-result-2
-add-result-2 c = search needs
 
 returns-3 : tie.Need-returns-3
 unfolding digit
@@ -93,18 +69,18 @@ pub digit-spec : {M : Type 1} → statement M
 digit-spec =
     tie.close
     (tie.spec
-    among-requires
+    (λ c κs. search needs)
     sub-result
-    cast-result
+    (λ c. search needs)
     returns
-    among-requires-2
+    (λ c κs. search needs)
     sub-result-2
-    cast-result-2
-    add-result
+    (λ c. search needs)
+    (λ c. search needs)
     returns-2
-    among-requires-3
+    (λ c κs. search needs)
     sub-result-3
-    cast-result-3
-    add-result-2
+    (λ c. search needs)
+    (λ c. search needs)
     returns-3
     returns-4)

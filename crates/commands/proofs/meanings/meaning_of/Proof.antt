@@ -5,21 +5,6 @@ use Rattle.commands.specs.Meanings.{meaning}
 use Rattle.commands.proofs.meanings.meaning_of.Statement.{statement}
 use Rattle.commands.proofs.meanings.meaning_of.Tie as tie
 
-shared-slice-read-match : tie.Need-shared-slice-read-match
-shared-slice-read-match c = search needs
-
-number-requires : tie.Need-number-requires
-number-requires c κs = search needs
-
-number-requires-2 : tie.Need-number-requires-2
-number-requires-2 c κs = search needs
-
-named-requires : tie.Need-named-requires
-named-requires c κs = search needs
-
-same-requires : tie.Need-same-requires
-same-requires c κs = search needs
-
 returns : tie.Need-returns
 unfolding meaning
 returns c =
@@ -60,11 +45,11 @@ pub meaning-of-spec : {M : Type 1} → statement M
 meaning-of-spec =
     tie.close
     (tie.spec
-    shared-slice-read-match
-    number-requires
-    number-requires-2
-    named-requires
-    same-requires
+    (λ c. search needs)
+    (λ c κs. search needs)
+    (λ c κs. search needs)
+    (λ c κs. search needs)
+    (λ c κs. search needs)
     returns
     returns-2
     returns-3

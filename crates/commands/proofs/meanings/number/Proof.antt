@@ -19,12 +19,6 @@ returns c = too-long _ _ _ (c .if1 .taken)
 loop-holds : tie.Need-loop-holds Inv-loop μ-loop
 loop-holds c = digits-begin (c .if1 .left)
 
-shared-slice-read-digit : tie.Need-shared-slice-read-digit Inv-loop μ-loop
-shared-slice-read-digit c = search needs
-
-digit-requires : tie.Need-digit-requires Inv-loop μ-loop
-digit-requires c κs = search needs
-
 returns-2 : tie.Need-returns-2 Inv-loop μ-loop
 returns-2 c = no-digit (c .before .before .before .before .loop .inv) (c .before .digit .ensures .0) (omega arith) (c .if2 .taken)
 
@@ -36,12 +30,6 @@ add-next c = omega (arith, product-fits (c .before .before .before .before .loop
 
 returns-3 : tie.Need-returns-3 Inv-loop μ-loop
 returns-3 c = over-32-bits (c .before .before .before .before .before .loop .inv) (c .before .before .digit .ensures .0) (omega arith) (c .before .if2 .left) (c .if3 .taken)
-
-add-at : tie.Need-add-at Inv-loop μ-loop
-add-at c = search needs
-
-loop-less : tie.Need-loop-less Inv-loop μ-loop
-loop-less c = search needs
 
 loop-again : tie.Need-loop-again Inv-loop μ-loop
 loop-again c = digits-on (c .before .before .before .before .before .loop .inv) (c .before .before .digit .ensures .0) (omega arith) (c .before .if2 .left) (c .if3 .left)
@@ -57,13 +45,13 @@ number-spec =
     μ-loop
     returns
     loop-holds
-    shared-slice-read-digit
-    digit-requires
+    (λ c. search needs)
+    (λ c κs. search needs)
     returns-2
     mul-next
     add-next
     returns-3
-    add-at
-    loop-less
+    (λ c. search needs)
+    (λ c. search needs)
     loop-again
     returns-4)

@@ -4,18 +4,6 @@ use Rattle.commands.proofs.Walks.{run-within, first-cut}
 use Rattle.commands.proofs.words.first_word.Statement.{statement}
 use Rattle.commands.proofs.words.first_word.Tie as tie
 
-unblanked-requires : tie.Need-unblanked-requires
-unblanked-requires c κs = search needs
-
-run-requires : tie.Need-run-requires
-run-requires c κs = search needs
-
-sub-result : tie.Need-sub-result
-sub-result c = search needs
-
-part-result-start : tie.Need-part-result-start
-part-result-start c = search needs
-
 part-result-end : tie.Need-part-result-end
 part-result-end c = omega (arith, c .run .ensures, run-within (c .before .unblanked .result .now))
 
@@ -27,4 +15,4 @@ returns c =
 pub first-word-spec : {M : Type 1} → statement M
 first-word-spec =
     tie.close
-    (tie.spec unblanked-requires run-requires sub-result part-result-start part-result-end returns)
+    (tie.spec (λ c κs. search needs) (λ c κs. search needs) (λ c. search needs) (λ c. search needs) part-result-end returns)

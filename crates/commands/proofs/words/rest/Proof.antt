@@ -4,20 +4,11 @@ use Rattle.commands.proofs.Walks.{run-within, rest-cut}
 use Rattle.commands.proofs.words.rest.Statement.{statement}
 use Rattle.commands.proofs.words.rest.Tie as tie
 
-unblanked-requires : tie.Need-unblanked-requires
-unblanked-requires c κs = search needs
-
-run-requires : tie.Need-run-requires
-run-requires c κs = search needs
-
 sub-result : tie.Need-sub-result
 sub-result c = omega (arith, c .run .ensures, run-within (c .before .unblanked .result .now))
 
 part-result-start : tie.Need-part-result-start
 part-result-start c = omega (arith, c .run .ensures, run-within (c .before .unblanked .result .now))
-
-part-result-end : tie.Need-part-result-end
-part-result-end c = search needs
 
 returns : tie.Need-returns
 returns c =
@@ -27,4 +18,4 @@ returns c =
 pub rest-spec : {M : Type 1} → statement M
 rest-spec =
     tie.close
-    (tie.spec unblanked-requires run-requires sub-result part-result-start part-result-end returns)
+    (tie.spec (λ c κs. search needs) (λ c κs. search needs) sub-result part-result-start (λ c. search needs) returns)

@@ -9,12 +9,6 @@ use Rattle.machine.proofs.Machine.watchdog_tick.Tie as tie
 returns : tie.Need-returns
 returns c = rw (not-true (counts (c .before .before .args .self)) (c .if1 .taken))
 
-sub-if2 : tie.Need-sub-if2
-sub-if2 c = search needs
-
-add-self : tie.Need-add-self
-add-self c = search needs
-
 returns-2 : tie.Need-returns-2
 returns-2 c =
     let at = c .before .before .before in
@@ -28,4 +22,4 @@ returns-3 c =
     rw (not-false (counts m) (at .if1 .left), le-ltb (m .count + 1) watchTicks (omega arith))
 
 pub watchdog-tick-spec : {M : Type 1} → statement M
-watchdog-tick-spec = tie.close (tie.spec returns sub-if2 add-self returns-2 returns-3)
+watchdog-tick-spec = tie.close (tie.spec returns (λ c. search needs) (λ c. search needs) returns-2 returns-3)

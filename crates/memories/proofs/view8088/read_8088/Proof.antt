@@ -7,26 +7,11 @@ use Rattle.memories.proofs.Laws.{lent8088, right8088, accepted8088, pla
 use Rattle.memories.proofs.view8088.read_8088.Statement.{statement}
 use Rattle.memories.proofs.view8088.read_8088.Tie as tie
 
-lengths-8088-requires : tie.Need-lengths-8088-requires
-lengths-8088-requires c κs = search needs
-
-refusal-8088-requires : tie.Need-refusal-8088-requires
-refusal-8088-requires c κs = search needs
-
-read-refused-requires : tie.Need-read-refused-requires
-read-refused-requires c κs = search needs
-
 returns : tie.Need-returns
 returns c =
     let s = c .before .before in
     rw (← s .before .lengths-8088 .ensures, ← s .refusal-8088 .ensures, ne-eqb (s .refusal-8088 .result) 0 (λ e. omega arith))
     (c .read-refused .ensures)
-
-seen-8088-requires : tie.Need-seen-8088-requires
-seen-8088-requires c κs = search needs
-
-enum-known-place : tie.Need-enum-known-place
-enum-known-place c = search needs
 
 shared-slice-read-byte-read : tie.Need-shared-slice-read-byte-read
 shared-slice-read-byte-read c =
@@ -35,12 +20,6 @@ shared-slice-read-byte-read c =
     let right = sym (a .before .lengths-8088 .ensures) ∙ right8088 _ _ _ (a .refusal-8088 .ensures) (λ e. omega arith) in
     omega (arith, lent8088 right, placed _ (s .seen-8088 .ensures) (c .before .before .place .given .1))
 
-byte-read-requires : tie.Need-byte-read-requires
-byte-read-requires c κs = search needs
-
-enum-known-place-2 : tie.Need-enum-known-place-2
-enum-known-place-2 c = search needs
-
 shared-slice-read-byte-read-2 : tie.Need-shared-slice-read-byte-read-2
 shared-slice-read-byte-read-2 c =
     let s = c .before .before .before .before in
@@ -48,27 +27,12 @@ shared-slice-read-byte-read-2 c =
     let right = sym (a .before .lengths-8088 .ensures) ∙ right8088 _ _ _ (a .refusal-8088 .ensures) (λ e. omega arith) in
     omega (arith, lent8088 right, placed _ (s .seen-8088 .ensures) (c .before .before .place2 .given .1))
 
-byte-read-requires-2 : tie.Need-byte-read-requires-2
-byte-read-requires-2 c κs = search needs
-
-enum-known-place-3 : tie.Need-enum-known-place-3
-enum-known-place-3 c = search needs
-
 shared-slice-read-byte-read-3 : tie.Need-shared-slice-read-byte-read-3
 shared-slice-read-byte-read-3 c =
     let s = c .before .before .before .before in
     let a = s .before .before in
     let right = sym (a .before .lengths-8088 .ensures) ∙ right8088 _ _ _ (a .refusal-8088 .ensures) (λ e. omega arith) in
     omega (arith, lent8088 right, placed _ (s .seen-8088 .ensures) (c .before .before .place3 .given .1))
-
-byte-read-requires-3 : tie.Need-byte-read-requires-3
-byte-read-requires-3 c κs = search needs
-
-enum-told : tie.Need-enum-told
-enum-told c = search needs
-
-byte-read-requires-4 : tie.Need-byte-read-requires-4
-byte-read-requires-4 c κs = search needs
 
 returns-2 : tie.Need-returns-2
 returns-2 c =
@@ -98,22 +62,22 @@ pub read-8088-spec : {M : Type 1} → statement M
 read-8088-spec =
     tie.close
     (tie.spec
-    lengths-8088-requires
-    refusal-8088-requires
-    read-refused-requires
+    (λ c κs. search needs)
+    (λ c κs. search needs)
+    (λ c κs. search needs)
     returns
-    seen-8088-requires
-    enum-known-place
+    (λ c κs. search needs)
+    (λ c. search needs)
     shared-slice-read-byte-read
-    byte-read-requires
-    enum-known-place-2
+    (λ c κs. search needs)
+    (λ c. search needs)
     shared-slice-read-byte-read-2
-    byte-read-requires-2
-    enum-known-place-3
+    (λ c κs. search needs)
+    (λ c. search needs)
     shared-slice-read-byte-read-3
-    byte-read-requires-3
-    enum-told
-    byte-read-requires-4
+    (λ c κs. search needs)
+    (λ c. search needs)
+    (λ c κs. search needs)
     returns-2
     returns-3
     returns-4

@@ -6,21 +6,6 @@ use Rattle.memories.specs.View8088.{refusedAccess}
 use Rattle.memories.proofs.view8088.refusal_8088.Statement.{statement}
 use Rattle.memories.proofs.view8088.refusal_8088.Tie as tie
 
-seen-8088-requires : tie.Need-seen-8088-requires
-seen-8088-requires c κs = search needs
-
-is-nowhere-requires : tie.Need-is-nowhere-requires
-is-nowhere-requires c κs = search needs
-
-number-if-requires : tie.Need-number-if-requires
-number-if-requires c κs = search needs
-
-stop-of-8088-requires : tie.Need-stop-of-8088-requires
-stop-of-8088-requires c κs = search needs
-
-refusal-requires : tie.Need-refusal-requires
-refusal-requires c κs = search needs
-
 returns : tie.Need-returns
 unfolding refusedAccess
 returns c =
@@ -40,9 +25,9 @@ pub refusal-8088-spec : {M : Type 1} → statement M
 refusal-8088-spec =
     tie.close
     (tie.spec
-    seen-8088-requires
-    is-nowhere-requires
-    number-if-requires
-    stop-of-8088-requires
-    refusal-requires
+    (λ c κs. search needs)
+    (λ c κs. search needs)
+    (λ c κs. search needs)
+    (λ c κs. search needs)
+    (λ c κs. search needs)
     returns)

@@ -6,12 +6,6 @@ use Rattle.memories.proofs.Laws.{right8088, accepted8088}
 use Rattle.memories.proofs.view8088.store_8088.Statement.{statement}
 use Rattle.memories.proofs.view8088.store_8088.Tie as tie
 
-lengths-8088-requires : tie.Need-lengths-8088-requires
-lengths-8088-requires c κs = search needs
-
-refusal-8088-requires : tie.Need-refusal-8088-requires
-refusal-8088-requires c κs = search needs
-
 returns : tie.Need-returns
 returns c =
     let a = c .before in
@@ -21,15 +15,6 @@ store-at-requires : tie.Need-store-at-requires
 store-at-requires c κs =
     let a = c .before .before .before .before in
     sym (a .before .lengths-8088 .ensures) ∙ right8088 _ _ _ (a .refusal-8088 .ensures) (λ e. omega arith)
-
-same-length : tie.Need-same-length
-same-length c = search needs
-
-same-length-2 : tie.Need-same-length-2
-same-length-2 c = search needs
-
-same-length-3 : tie.Need-same-length-3
-same-length-3 c = search needs
 
 returns-2 : tie.Need-returns-2
 returns-2 c =
@@ -42,11 +27,11 @@ pub store-8088-spec : {M : Type 1} → statement M
 store-8088-spec =
     tie.close
     (tie.spec
-    lengths-8088-requires
-    refusal-8088-requires
+    (λ c κs. search needs)
+    (λ c κs. search needs)
     returns
     store-at-requires
-    same-length
-    same-length-2
-    same-length-3
+    (λ c. search needs)
+    (λ c. search needs)
+    (λ c. search needs)
     returns-2)

@@ -6,20 +6,11 @@ use Rattle.memories.proofs.Laws.{lent8088, placed}
 use Rattle.memories.proofs.view8088.store_at.Statement.{statement}
 use Rattle.memories.proofs.view8088.store_at.Tie as tie
 
-seen-8088-requires : tie.Need-seen-8088-requires
-seen-8088-requires c κs = search needs
-
-enum-known-place : tie.Need-enum-known-place
-enum-known-place c = search needs
-
 slice-write-shared : tie.Need-slice-write-shared
 slice-write-shared c =
     let s = c .before .before .before in
     let pre = s .before .before .before .before .pre in
     omega (arith, lent8088 pre, placed _ (s .seen-8088 .ensures) (c .before .place .given .1))
-
-enum-known-place-2 : tie.Need-enum-known-place-2
-enum-known-place-2 c = search needs
 
 slice-write-screen : tie.Need-slice-write-screen
 slice-write-screen c =
@@ -27,28 +18,16 @@ slice-write-screen c =
     let pre = s .before .before .before .before .pre in
     omega (arith, lent8088 pre, placed _ (s .seen-8088 .ensures) (c .before .place2 .given .1))
 
-enum-known-place-3 : tie.Need-enum-known-place-3
-enum-known-place-3 c = search needs
-
 slice-write-attribute : tie.Need-slice-write-attribute
 slice-write-attribute c =
     let s = c .before .before .before in
     let pre = s .before .before .before .before .pre in
     omega (arith, lent8088 pre, placed _ (s .seen-8088 .ensures) (c .before .place3 .given .1))
 
-enum-told : tie.Need-enum-told
-enum-told c = search needs
-
-same-length : tie.Need-same-length
-same-length c = search needs
-
 returns : tie.Need-returns
 returns c =
     let s = c .before .before .before in
     rw (sym (s .seen-8088 .ensures) ∙ c .before .place .given .1)
-
-same-length-2 : tie.Need-same-length-2
-same-length-2 c = search needs
 
 returns-2 : tie.Need-returns-2
 returns-2 c =
@@ -72,17 +51,17 @@ pub store-at-spec : {M : Type 1} → statement M
 store-at-spec =
     tie.close
     (tie.spec
-    seen-8088-requires
-    enum-known-place
+    (λ c κs. search needs)
+    (λ c. search needs)
     slice-write-shared
-    enum-known-place-2
+    (λ c. search needs)
     slice-write-screen
-    enum-known-place-3
+    (λ c. search needs)
     slice-write-attribute
-    enum-told
-    same-length
+    (λ c. search needs)
+    (λ c. search needs)
     returns
-    same-length-2
+    (λ c. search needs)
     returns-2
     same-length-3
     returns-3

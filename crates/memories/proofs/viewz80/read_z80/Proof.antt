@@ -6,12 +6,6 @@ use Rattle.memories.proofs.Laws.{lentZ80, acceptedZ80, below0800, from0
 use Rattle.memories.proofs.viewz80.read_z80.Statement.{statement}
 use Rattle.memories.proofs.viewz80.read_z80.Tie as tie
 
-refusal-z80-requires : tie.Need-refusal-z80-requires
-refusal-z80-requires c κs = search needs
-
-read-refused-requires : tie.Need-read-refused-requires
-read-refused-requires c κs = search needs
-
 returns : tie.Need-returns
 returns c =
     let s = c .before in
@@ -22,16 +16,10 @@ shared-slice-read-byte-read c =
     let s = c .before .before in
     omega (arith, lentZ80 _ _ _ (s .before .refusal-z80 .ensures) (λ e. omega arith))
 
-byte-read-requires : tie.Need-byte-read-requires
-byte-read-requires c κs = search needs
-
 shared-slice-read-byte-read-2 : tie.Need-shared-slice-read-byte-read-2
 shared-slice-read-byte-read-2 c =
     let s = c .before .before in
     omega (arith, lentZ80 _ _ _ (s .before .refusal-z80 .ensures) (λ e. omega arith))
-
-byte-read-requires-2 : tie.Need-byte-read-requires-2
-byte-read-requires-2 c κs = search needs
 
 returns-2 : tie.Need-returns-2
 unfolding seenZ80
@@ -49,12 +37,12 @@ pub read-z80-spec : {M : Type 1} → statement M
 read-z80-spec =
     tie.close
     (tie.spec
-    refusal-z80-requires
-    read-refused-requires
+    (λ c κs. search needs)
+    (λ c κs. search needs)
     returns
     shared-slice-read-byte-read
-    byte-read-requires
+    (λ c κs. search needs)
     shared-slice-read-byte-read-2
-    byte-read-requires-2
+    (λ c κs. search needs)
     returns-2
     returns-3)

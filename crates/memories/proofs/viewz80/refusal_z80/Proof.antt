@@ -8,15 +8,6 @@ use Rattle.memories.specs.ViewZ80.{lengthsZ80, refusalZ80}
 use Rattle.memories.proofs.viewz80.refusal_z80.Statement.{statement}
 use Rattle.memories.proofs.viewz80.refusal_z80.Tie as tie
 
-two-lengths-requires : tie.Need-two-lengths-requires
-two-lengths-requires c κs = search needs
-
-stop-of-z80-requires : tie.Need-stop-of-z80-requires
-stop-of-z80-requires c κs = search needs
-
-refusal-requires : tie.Need-refusal-requires
-refusal-requires c κs = search needs
-
 returns : tie.Need-returns
 unfolding lengthsZ80 refusalZ80
 returns c =
@@ -26,4 +17,4 @@ returns c =
     (stopped-first (lengthsZ80 (args .private) (args .shared)) z80HeldRefused (not (z80Runs (args .machine))) 0 refl)
 
 pub refusal-z80-spec : {M : Type 1} → statement M
-refusal-z80-spec = tie.close (tie.spec two-lengths-requires stop-of-z80-requires refusal-requires returns)
+refusal-z80-spec = tie.close (tie.spec (λ c κs. search needs) (λ c κs. search needs) (λ c κs. search needs) returns)

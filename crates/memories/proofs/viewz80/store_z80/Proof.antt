@@ -5,9 +5,6 @@ use Rattle.memories.proofs.Laws.{lentZ80, acceptedZ80, below0800, from0
 use Rattle.memories.proofs.viewz80.store_z80.Statement.{statement}
 use Rattle.memories.proofs.viewz80.store_z80.Tie as tie
 
-refusal-z80-requires : tie.Need-refusal-z80-requires
-refusal-z80-requires c κs = search needs
-
 returns : tie.Need-returns
 returns c =
     let s = c .before in
@@ -18,9 +15,6 @@ slice-write-private c = omega (arith, lentZ80 _ _ _ (c .before .before .refusal-
 
 slice-write-shared : tie.Need-slice-write-shared
 slice-write-shared c = omega (arith, lentZ80 _ _ _ (c .before .before .refusal-z80 .ensures) (λ e. omega arith))
-
-same-length : tie.Need-same-length
-same-length c = search needs
 
 returns-2 : tie.Need-returns-2
 returns-2 c =
@@ -39,11 +33,11 @@ pub store-z80-spec : {M : Type 1} → statement M
 store-z80-spec =
     tie.close
     (tie.spec
-    refusal-z80-requires
+    (λ c κs. search needs)
     returns
     slice-write-private
     slice-write-shared
-    same-length
+    (λ c. search needs)
     returns-2
     same-length-2
     returns-3)

@@ -6,20 +6,11 @@ use Rattle.rainbow.proofs.Part.{placed}
 use Rattle.rainbow.proofs.dots.rainbow_glyph_part.Statement.{statement}
 use Rattle.rainbow.proofs.dots.rainbow_glyph_part.Tie as tie
 
-part-requires : tie.Need-part-requires
-part-requires c κs = search needs
-
-refusal-requires : tie.Need-refusal-requires
-refusal-requires c κs = search needs
-
 returns : tie.Need-returns
 returns c =
     let h = c .before in
     let place = placed _ _ (search needs) (ap (λ (s : Slice). s .bytes) (h .before .part .ensures)) (h .refusal .ensures) in
     rw (place, ne-eqb _ _ (c .if1 .taken)) refl
-
-mul-t8 : tie.Need-mul-t8
-mul-t8 c = search needs
 
 returns-2 : tie.Need-returns-2
 returns-2 c =
@@ -28,4 +19,4 @@ returns-2 c =
     rw (place, eq-eqb _ _ (c .if1 .left)) refl
 
 pub rainbow-glyph-part-spec : {M : Type 1} → statement M
-rainbow-glyph-part-spec = tie.close (tie.spec part-requires refusal-requires returns mul-t8 returns-2)
+rainbow-glyph-part-spec = tie.close (tie.spec (λ c κs. search needs) (λ c κs. search needs) returns (λ c. search needs) returns-2)
