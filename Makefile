@@ -10,7 +10,8 @@
 # make examples   the examples in C, Rust and Python, run
 #
 # What is tested beside the gate:
-# make check      layout, documents, the model's tests, what the programs must write, the headers, the Cargo package
+# make check      layout, documents and their pictures, the model's tests, what the programs must write, the headers,
+#                 the Cargo package
 # make docs       the documents against the tree
 # make host       the library from C, C++, Rust and Python, each call beside the model; the package, the installation
 # make compare    the row lister beside the model on 5,000 screens that are hard to walk, the tube on 500; the monitor's
@@ -23,7 +24,7 @@
 # make counts     the functions of each crate, in docs/PROMISES.md
 # make expected   what the programs are given and must write, by the model in host/
 # make scripts    the monitor's long scripts, from their seeds
-# make png        the tube's picture, as docs/tube.png
+# make png        the tube's pictures, docs/tube.png and docs/scroll.png
 .PHONY: all test check docs counts expected scripts png compare mutants host bench emulated clean
 .PHONY: rust library programs install uninstall examples python
 .PHONY: model archive kit-library header-c header-c++ package-tests
@@ -58,7 +59,8 @@ LOAD = $(MODEL)/load
 STRICT = -O2 -Iinclude -Wall -Wextra -Wpedantic -Wconversion -Wshadow -Werror
 C = $(CC) -std=c11 $(STRICT)
 CPP = $(CXX) -std=c++17 $(STRICT) -x c++
-FAULTS = 1 2 3 4 5 6 7 8 9 10 11 12 13 15 16 17 18 19 20 21 22 23 24 25 26 27 28 29 30 31 32
+FAULTS = 1 2 3 4 5 6 7 8 9 10 11 12 13 15 16 17 18 19 20 21 22 23 24 25 26 27 28 29 30 31 32 33 34 35 36 37 38 39 40 \
+	41
 # A fault of the second of two libraries.
 BOTH_FAULT = 14
 
@@ -105,8 +107,15 @@ scripts: model
 	@mkdir -p $(INTO)/monitor/data
 	$(MODEL)/scripts $(INTO)/monitor/data
 
-png: model
+# The page of crates/tube/stdout; and the page that scrolls, by the program, at four latches side by side.
+LATCHES = 0 3 6 9
+png: model programs
 	$(MODEL)/pgm_to_png < crates/tube/stdout > docs/tube.png
+	@mkdir -p target/scroll
+	$(MODEL)/expected_tube milking > target/scroll/memories
+	for latch in $(LATCHES); do \
+		target/native/tube latch=$$latch < target/scroll/memories > target/scroll/$$latch.pgm || exit 1; done
+	$(MODEL)/pgm_to_png $(LATCHES:%=target/scroll/%.pgm) > docs/scroll.png
 
 # The Cargo package. That it has the text of crates/ is checked each time.
 rust: model

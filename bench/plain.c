@@ -191,3 +191,35 @@ uint8_t plain_scan_line(rainbow_machine machine, const uint8_t *picture, size_t 
     memset(dot, 0, (size_t)(line + RAINBOW_LINE_BYTES - dot));
     return RAINBOW_ACCEPTED;
 }
+
+static bool scrolls(const uint8_t *picture, unsigned row) {
+    return (picture[row * RAINBOW_RECORD_BYTES + RAINBOW_KIND_AT] & 4) != 0;
+}
+
+uint8_t plain_list_lines(rainbow_machine machine, const uint8_t *picture, size_t picture_length, uint8_t *list,
+                         size_t list_length) {
+    if (picture_length != RAINBOW_PICTURE_BYTES || list_length != RAINBOW_LIST_BYTES)
+        return RAINBOW_REFUSED_LENGTH;
+    unsigned latch = machine.latch % 16u, first = 0;
+    if (latch > 9)
+        return RAINBOW_REFUSED_LATCH;
+    while (first < RAINBOW_ROWS && !scrolls(picture, first))
+        first++;
+    unsigned end = first;
+    while (end < RAINBOW_ROWS && scrolls(picture, end))
+        end++;
+    bool at_rest = first == end || latch == 0;
+    unsigned rows = at_rest ? RAINBOW_ROWS_AT_REST : RAINBOW_ROWS;
+    for (unsigned row = 0; row < rows; row++) {
+        unsigned from = RAINBOW_FIRST_SCAN, to = RAINBOW_LAST_SCAN;
+        if (!at_rest && row == first)
+            from += latch;
+        if (!at_rest && row + 1 == end)
+            to = latch;
+        for (unsigned scan = from; scan <= to; scan++) {
+            *list++ = (uint8_t)row;
+            *list++ = (uint8_t)scan;
+        }
+    }
+    return RAINBOW_ACCEPTED;
+}

@@ -1,5 +1,5 @@
-/* The same jobs in plain C, to measure beside: document 01 as a C programmer would write it, with the tests of
- * lengths, reset, addresses and places that the library makes. */
+/* The same jobs in plain C, to measure beside: the documents as a C programmer would write them, with the tests of
+ * lengths, reset, addresses, places and the latch that the library makes. */
 #ifndef PLAIN_H
 #define PLAIN_H
 
@@ -17,6 +17,9 @@ rainbow_stored plain_store_with_picture(rainbow_machine machine, uint8_t *shared
 uint8_t plain_scan_line(rainbow_machine machine, const uint8_t *picture, size_t picture_length,
                         const uint8_t *table, size_t table_length, size_t row, size_t scan, uint8_t *line,
                         size_t line_length);
+
+uint8_t plain_list_lines(rainbow_machine machine, const uint8_t *picture, size_t picture_length, uint8_t *list,
+                         size_t list_length);
 
 uint8_t plain_store_8088(rainbow_machine machine, uint8_t *shared, size_t shared_length, uint8_t *screen,
                          size_t screen_length, uint8_t *attribute, size_t attribute_length, uint32_t address,

@@ -15,7 +15,7 @@ int main(void)
 
     uint32_t marks = rainbow_computer_store(&c, 0xEE004, 'H').marks; /* the picture is mended */
     rainbow_computer_text(&c, 0, text);
-    printf("row 0 is %s, marks %06X\n", text, (unsigned)marks);
+    printf("row 0 is %s, marks %07X\n", text, (unsigned)marks);
 
     uint8_t refusal = rainbow_computer_store(&c, 0xF0000, 'H').refusal;
     printf("refused by %d: %s\n", refusal, rainbow_refusal_text(refusal));

@@ -6,7 +6,7 @@ for place, byte in enumerate(b"BERTA\xFF\x00\x01"):  # FF, then the next row's s
 print("row 0 is", c.text(0))
 
 marks = c.store(0xEE004, ord("H"))  # the picture is mended
-print(f"row 0 is {c.text(0)}, marks {marks:06X}")
+print(f"row 0 is {c.text(0)}, marks {marks:07X}")
 
 try:
     c.store(0xF0000, ord("H"))

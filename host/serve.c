@@ -11,7 +11,7 @@
 long read(int file, void *bytes, size_t length);
 long write(int file, const void *bytes, size_t length);
 
-enum { GUARD = 64, MOST = 2 * RAINBOW_SHARED_BYTES, BUFFERS = 4 };
+enum { GUARD = 64, MOST = 2 * RAINBOW_SHARED_BYTES, BUFFERS = 4, FUNCTIONS = 23 };
 
 /* Each buffer has bytes before it and after it that no call may change. */
 static uint8_t memory[BUFFERS][GUARD + MOST + GUARD];
@@ -155,7 +155,8 @@ static answer call(uint8_t function, rainbow_machine machine, uint64_t m, uint64
         a.length = part.length;
         break;
     }
-    default: a.refusal = rainbow_scan_line(machine, b[0], l[0], b[1], l[1], m, n, b[2], l[2]);
+    case 21: a.refusal = rainbow_scan_line(machine, b[0], l[0], b[1], l[1], m, n, b[2], l[2]); break;
+    default: a.refusal = rainbow_list_lines(machine, b[0], l[0], b[1], l[1]);
     }
     return a;
 }
@@ -166,7 +167,7 @@ static bool serve(void)
     uint8_t function, buffers;
     rainbow_machine machine;
     uint64_t m, n;
-    if (!take(&function, 1) || function > 21 || !take(&machine, sizeof machine))
+    if (!take(&function, 1) || function >= FUNCTIONS || !take(&machine, sizeof machine))
         return false;
     if (!take_number(&m) || !take_number(&n) || !take(&buffers, 1) || buffers > BUFFERS)
         return false;

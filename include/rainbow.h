@@ -14,8 +14,8 @@
  * different buffers may be made from different threads. The machine goes in by value and comes back.
  *
  * A refused call says why by its number. If more than one applies, 1 comes first, then 7 or 8, then the lowest of 2
- * to 6; the numbers of each call are listed in that order. Every other number of its answer is 0, no row is named, and
- * no byte lent to it and no field of the machine changes.
+ * to 6, then 9; the numbers of each call are listed in that order. Every other number of its answer is 0, no row is
+ * named, and no byte lent to it and no field of the machine changes.
  */
 #ifndef RAINBOW_H
 #define RAINBOW_H
@@ -30,7 +30,7 @@ extern "C" {
 
 /* Raised by every new call and every change of a number, a struct or a rule of this file. rainbow_version() is the
  * library's own. */
-#define RAINBOW_VERSION 5
+#define RAINBOW_VERSION 6
 
 /* The length of each buffer, in bytes. */
 #define RAINBOW_SHARED_BYTES 65536
@@ -40,8 +40,9 @@ extern "C" {
 #define RAINBOW_GLYPH_BYTES 4096
 #define RAINBOW_NVM_BYTES 256
 #define RAINBOW_SHADOW_BYTES 256
-#define RAINBOW_PICTURE_BYTES 6432
+#define RAINBOW_PICTURE_BYTES 6700
 #define RAINBOW_LINE_BYTES 1188
+#define RAINBOW_LIST_BYTES 480
 
 /* The numbers of refusal. */
 #define RAINBOW_ACCEPTED 0
@@ -49,14 +50,15 @@ extern "C" {
 #define RAINBOW_REFUSED_ADDRESS 2  /* the 8088's address lies in none of its three ranges */
 #define RAINBOW_REFUSED_PORT 3     /* the port is none of 04, 0A, 0C, 10C */
 #define RAINBOW_REFUSED_CODE 4     /* the code is not in that port's list */
-#define RAINBOW_REFUSED_PLACE 5    /* a row over 23, a scan outside 1 to 10, a shadow place over 255 */
+#define RAINBOW_REFUSED_PLACE 5    /* a row over 24, a scan outside 1 to 10, a shadow place over 255 */
 #define RAINBOW_REFUSED_EDGES 6    /* bits 6 and 7 of port 0A both rise in one write */
 #define RAINBOW_REFUSED_Z80_HELD 7 /* the Z80 is held: bit 0 of port 0A is 0 */
 #define RAINBOW_REFUSED_IN_RESET 8 /* the 8088 is in reset, by the watchdog */
+#define RAINBOW_REFUSED_LATCH 9    /* a whole screen is asked for with the scroll latch over 9 */
 
 /* The picture: a record for each row. A record is the row's start (two bytes, high byte first), its kind, its
  * count, then 132 pairs of character and attribute. The count is the cells before FF, or one of the two below. */
-#define RAINBOW_ROWS 24
+#define RAINBOW_ROWS 25
 #define RAINBOW_RECORD_BYTES 268
 #define RAINBOW_KIND_AT 2
 #define RAINBOW_COUNT_AT 3
@@ -67,6 +69,10 @@ extern "C" {
 /* The scans of a row. */
 #define RAINBOW_FIRST_SCAN 1
 #define RAINBOW_LAST_SCAN 10
+
+/* The lines of the whole screen, and the rows that show, each in full, where nothing scrolls: rows 0 to 23. */
+#define RAINBOW_LINES 240
+#define RAINBOW_ROWS_AT_REST 24
 
 /* The machine's own state. */
 typedef struct rainbow_machine {
@@ -205,7 +211,7 @@ rainbow_byte_read rainbow_read_shadow(rainbow_machine machine, const uint8_t *sh
 uint8_t rainbow_write_shadow(rainbow_machine machine, uint8_t *shadow, size_t shadow_length, size_t place,
                              uint8_t value);
 
-/* Draws the picture afresh: walks the chain of lines from place 0 at the column setting, 24 rows, and writes the
+/* Draws the picture afresh: walks the chain of lines from place 0 at the column setting, 25 rows, and writes the
  * record of each. A row runs to the first FF, the two bytes after which are the next row's start, low byte first;
  * the attribute byte beside the first of them gives that row's kind. A row with no FF among its first capacity + 1
  * bytes is torn, and all rows after it are dark.
@@ -230,7 +236,7 @@ bool rainbow_is_marked(uint32_t marks, size_t row);
 /* Where the sixteen scan bytes of a code stand in the caller's glyph table: code times 16. Refused: 1. */
 rainbow_part_place rainbow_glyph_part(const uint8_t *table, size_t table_length, uint8_t code);
 
-/* Draws scan 1 to 10 of row 0 to 23 of a picture, which may hold any bytes: all 1,188 bytes of the line, 0 for an
+/* Draws scan 1 to 10 of row 0 to 24 of a picture, which may hold any bytes: all 1,188 bytes of the line, 0 for an
  * unlit dot, 1 to 3 for a lit one. The whole line is 0 if the display is blanked, the graphics board selected, or
  * the row dark.
  * The answer is the refusal: 1, 5. */
@@ -240,6 +246,16 @@ uint8_t rainbow_scan_line(rainbow_machine machine, const uint8_t *picture, size_
 
 /* How many dots a line has at the column setting: 800 or 1,188. The bytes after them are 0. */
 size_t rainbow_dots_of_line(rainbow_machine machine);
+
+/* Lists the 240 lines of the whole screen from the top: for each the row, 0 to 24, and the scan, 1 to 10, that it
+ * shows, two bytes. The picture may hold any bytes; of each row the kind is read, modulo 8. L is the scroll latch,
+ * modulo 16, and the run is the first unbroken run of rows whose kind has bit 2 set. With no such run, or with L 0,
+ * rows 0 to 23 show in full. Otherwise all 25 rows show, but the run's first row without its top L scans and its last
+ * row without its bottom 10 - L; a run of one row shows none.
+ * rainbow_scan_line draws the line of each; at L 0 to 9 no entry of the list is refused by 5.
+ * The answer is the refusal: 1, 9 if L is over 9. */
+uint8_t rainbow_list_lines(rainbow_machine machine, const uint8_t *picture, size_t picture_length, uint8_t *list,
+                           size_t list_length);
 
 #ifdef __cplusplus
 }

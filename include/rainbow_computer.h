@@ -27,10 +27,11 @@ typedef struct rainbow_computer {
     uint8_t shadow[RAINBOW_SHADOW_BYTES];
     uint8_t picture[RAINBOW_PICTURE_BYTES];
     uint8_t line[RAINBOW_LINE_BYTES]; /* the scan line drawn last */
+    uint8_t list[RAINBOW_LIST_BYTES]; /* the lines of the whole screen, listed last */
     rainbow_machine machine;
 } rainbow_computer;
 
-RAINBOW_SIZE(rainbow_computer, 88015);
+RAINBOW_SIZE(rainbow_computer, 88763);
 
 /* What a record of the picture says of its row. */
 typedef struct rainbow_row {
@@ -56,10 +57,11 @@ static inline const char *rainbow_refusal_text(uint8_t refusal)
     case RAINBOW_REFUSED_ADDRESS: return "the 8088's address lies in none of its three ranges";
     case RAINBOW_REFUSED_PORT: return "the port is none of 04, 0A, 0C, 10C";
     case RAINBOW_REFUSED_CODE: return "the code is not in that port's list";
-    case RAINBOW_REFUSED_PLACE: return "a row over 23, a scan outside 1 to 10, a shadow place over 255";
+    case RAINBOW_REFUSED_PLACE: return "a row over 24, a scan outside 1 to 10, a shadow place over 255";
     case RAINBOW_REFUSED_EDGES: return "bits 6 and 7 of port 0A both rise in one write";
     case RAINBOW_REFUSED_Z80_HELD: return "the Z80 is held";
     case RAINBOW_REFUSED_IN_RESET: return "the 8088 is in reset";
+    case RAINBOW_REFUSED_LATCH: return "a whole screen is asked for with the scroll latch over 9";
     default: return "no number of refusal";
     }
 }
@@ -162,6 +164,13 @@ static inline uint8_t rainbow_computer_scan_line(rainbow_computer *c, size_t row
                              sizeof c->line);
 }
 
+/* Lists the RAINBOW_LINES lines of the whole screen in c->list, row then scan for each from the top. The answer is the
+ * refusal: 9. */
+static inline uint8_t rainbow_computer_list_lines(rainbow_computer *c)
+{
+    return rainbow_list_lines(c->machine, c->picture, sizeof c->picture, c->list, sizeof c->list);
+}
+
 /* The sixteen scan bytes of a code, in c->glyphs. */
 static inline uint8_t *rainbow_computer_glyph(rainbow_computer *c, uint8_t code)
 {
@@ -192,7 +201,7 @@ static inline rainbow_row rainbow_computer_row(const rainbow_computer *c, size_t
 }
 
 /* A row's cells as text, with a 0 after it: a point stands for what is no printable ASCII. The answer is how many
- * cells there are, 0 for a row over 23. `text` has RAINBOW_TEXT_BYTES bytes. */
+ * cells there are, 0 for a row over 24. `text` has RAINBOW_TEXT_BYTES bytes. */
 static inline size_t rainbow_computer_text(const rainbow_computer *c, size_t row, char *text)
 {
     size_t cells = rainbow_computer_row(c, row).cells, cell;

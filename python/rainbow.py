@@ -17,18 +17,19 @@ from ctypes import c_bool, c_size_t, c_uint8, c_uint16, c_uint32
 from typing import NamedTuple, Optional
 
 # The numbers of include/rainbow.h, by the same names: first its version.
-VERSION = 5
+VERSION = 6
 SHARED_BYTES, PRIVATE_BYTES = 65536, 2048
 SCREEN_BYTES, ATTRIBUTE_BYTES, GLYPH_BYTES = 4096, 4096, 4096
 NVM_BYTES, SHADOW_BYTES = 256, 256
-PICTURE_BYTES, LINE_BYTES = 6432, 1188
+PICTURE_BYTES, LINE_BYTES, LIST_BYTES = 6700, 1188, 480
 ACCEPTED, REFUSED_LENGTH, REFUSED_ADDRESS, REFUSED_PORT = 0, 1, 2, 3
 REFUSED_CODE, REFUSED_PLACE, REFUSED_EDGES = 4, 5, 6
-REFUSED_Z80_HELD, REFUSED_IN_RESET = 7, 8
-ROWS, RECORD_BYTES, KIND_AT, COUNT_AT, PAIRS_AT = 24, 268, 2, 3, 4
+REFUSED_Z80_HELD, REFUSED_IN_RESET, REFUSED_LATCH = 7, 8, 9
+ROWS, RECORD_BYTES, KIND_AT, COUNT_AT, PAIRS_AT = 25, 268, 2, 3, 4
 PAIRS = 132
 TORN, DARK = 255, 254
 FIRST_SCAN, LAST_SCAN = 1, 10
+LINES, ROWS_AT_REST = 240, 24
 
 # What each number of refusal says.
 REFUSAL_TEXTS = (
@@ -37,15 +38,16 @@ REFUSAL_TEXTS = (
     "the 8088's address lies in none of its three ranges",
     "the port is none of 04, 0A, 0C, 10C",
     "the code is not in that port's list",
-    "a row over 23, a scan outside 1 to 10, a shadow place over 255",
+    "a row over 24, a scan outside 1 to 10, a shadow place over 255",
     "bits 6 and 7 of port 0A both rise in one write",
     "the Z80 is held",
     "the 8088 is in reset",
+    "a whole screen is asked for with the scroll latch over 9",
 )
 
 
 class Refused(Exception):
-    """A call was refused: `number` says why, 1 to 8, and `text` says it in words."""
+    """A call was refused: `number` says why, 1 to 9, and `text` says it in words."""
 
     def __init__(self, number):
         super().__init__(number)
@@ -149,6 +151,7 @@ FUNCTIONS = {
     "rainbow_glyph_part": (PartPlace, _LENT + [c_uint8]),
     "rainbow_scan_line": (c_uint8, [Machine] + _LENT * 2 + [c_size_t] * 2 + _LENT),
     "rainbow_dots_of_line": (c_size_t, [Machine]),
+    "rainbow_list_lines": (c_uint8, [Machine] + _LENT * 2),
 }
 
 
@@ -200,7 +203,8 @@ class Computer(ctypes.Structure):
                 ("screen", c_uint8 * SCREEN_BYTES), ("attribute", c_uint8 * ATTRIBUTE_BYTES),
                 ("glyphs", c_uint8 * GLYPH_BYTES), ("nvm", c_uint8 * NVM_BYTES),
                 ("shadow", c_uint8 * SHADOW_BYTES), ("picture", c_uint8 * PICTURE_BYTES),
-                ("line", c_uint8 * LINE_BYTES), ("machine", Machine)]
+                ("line", c_uint8 * LINE_BYTES), ("list", c_uint8 * LIST_BYTES),
+                ("machine", Machine)]
 
     marked_rows = staticmethod(marked_rows)
 
@@ -289,6 +293,13 @@ class Computer(ctypes.Structure):
         _call("rainbow_scan_line", self.machine, *memories, row, scan, self.line)
         return bytes(self.line)[:self.dots]
 
+    def list_lines(self):
+        """Lists the 240 lines of the whole screen in `list`. The answer is a pair for each line
+        from the top: the row and the scan that it shows. Refused: 9."""
+        _call("rainbow_list_lines", self.machine, self.picture, self.list)
+        listed = bytes(self.list)
+        return list(zip(listed[0::2], listed[1::2]))
+
     def glyph(self, code):
         """The sixteen scan bytes of a code: a view of `glyphs`, which can be written to."""
         part = _call("rainbow_glyph_part", self.glyphs, code)
@@ -349,7 +360,7 @@ class Computer(ctypes.Structure):
 SIZES = {"size_t": (c_size_t, 8), "bool": (c_bool, 1), "rainbow_machine": (Machine, 11),
          "rainbow_byte_read": (ByteRead, 2), "rainbow_written": (Written, 12),
          "rainbow_drawn": (Drawn, 6), "rainbow_stored": (Stored, 8),
-         "rainbow_part_place": (PartPlace, 24), "rainbow_computer": (Computer, 88015)}
+         "rainbow_part_place": (PartPlace, 24), "rainbow_computer": (Computer, 88763)}
 
 
 def check_sizes(sizes):

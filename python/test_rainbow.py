@@ -1,7 +1,8 @@
 """Tests of rainbow.py and rows.py: python3 -m unittest discover -s python
 
-The cases P1 to P13 are those of document 01; wild links are those of document 02, ticket 1, a Z80
-that is held is that of ticket 2, and the watchdog that of ticket 3.
+The cases P1 to P13 are those of document 01, with the row that ticket 5 of document 02 adds. Wild
+links are those of ticket 1, a Z80 that is held is that of ticket 2, the watchdog that of ticket 3,
+and the whole screen that of ticket 5.
 """
 import copy
 import ctypes
@@ -27,6 +28,8 @@ if os.environ.get("RAINBOW_LIBRARY"):  # the example is run in other folders too
 
 SCREEN, ATTRIBUTE = 0xEE000, 0xEF000
 DARK_ROW = Row(0, 3, rainbow.DARK, 0)
+LAST_ROW = rainbow.ROWS - 1
+ALL_EMPTY = 3 * rainbow.ROWS  # the bytes read of rows that have no cells
 PLAIN = 0x0E  # the attribute of a cell that is neither bold, blinking, underlined nor reverse
 
 
@@ -68,6 +71,22 @@ def parts(given):
     given = [" ".join(part.replace("const ", "").split()) for part in given.split(",")]
     found = [re.fullmatch(r"(\w+(?: \*)?) ?(\w+)", part) for part in given]
     return [part.groups() for part in found]
+
+
+def lines_shown(kinds, latch):
+    """The lines of the whole screen, by document 02, ticket 5, with a latch of 0 to 9."""
+    run = re.search("1+", "".join("1" if kind & 4 else "0" for kind in kinds))
+    if run is None or latch == 0:
+        return [(row, scan) for row in range(24) for scan in range(1, 11)]
+    lines = []
+    for row in range(25):
+        scans = list(range(1, 11))
+        if row == run.end() - 1:
+            scans = [scan for scan in scans if scan <= latch]
+        if row == run.start():
+            scans = [scan for scan in scans if scan > latch]
+        lines += [(row, scan) for scan in scans]
+    return lines
 
 
 C_TYPES = {
@@ -113,9 +132,9 @@ class Worked(Case):
     """The worked cases of document 01."""
 
     def test_p1_all_ff(self):
-        self.assertEqual(self.computer.load(b"\xff" * 4096, bytes(4096)), Drawing(72, 0))
+        self.assertEqual(self.computer.load(b"\xff" * 4096, bytes(4096)), Drawing(75, 0))
         self.assertEqual(self.computer.row(0), Row(0, 3, 0, 0))
-        for row in range(1, 24):
+        for row in range(1, 25):
             self.assertEqual(self.computer.row(row), Row(4095, 0, 0, 0))
 
     def test_p2_all_zero(self):
@@ -123,7 +142,7 @@ class Worked(Case):
         self.assertEqual(self.computer.row(0), Row(0, 3, 255, 80))
         self.assertTrue(self.computer.row(0).torn)
         self.assertFalse(self.computer.row(0).dark)
-        for row in range(1, 24):
+        for row in range(1, 25):
             self.assertEqual(self.computer.row(row), DARK_ROW)
             self.assertTrue(self.computer.row(row).dark)
             self.assertFalse(self.computer.row(row).torn)
@@ -216,8 +235,8 @@ class Worked(Case):
     def test_p13_marks(self):
         self.computer.load(b"\xff" + bytes(4095), b"\x03" * 4096)
         marks = self.computer.store(SCREEN + 2, 1)
-        self.assertEqual(marks, 0xFFFFFE)
-        self.assertEqual(rainbow.marked_rows(marks), list(range(1, 24)))
+        self.assertEqual(marks, 0x1FFFFFE)
+        self.assertEqual(rainbow.marked_rows(marks), list(range(1, 25)))
         self.assertEqual(self.computer.row(0), Row(0, 3, 0, 0))
         self.assertEqual(self.computer.row(1), Row(256, 3, rainbow.TORN, 80))
         self.assertEqual(self.computer.row(2), DARK_ROW)
@@ -229,35 +248,38 @@ class Wild(Case):
     def links(self, high):
         """Draws rows of no cells, eight places apart. The links of some have other high bytes."""
         screen = bytearray(b"A" * 4096)
-        for row in range(24):
+        for row in range(rainbow.ROWS):
             screen[8 * row:8 * row + 3] = 0xFF, 8 * row + 8, high.get(row, 0)
         return self.computer.load(screen, b"\x03" * 4096)
 
     def test_each_bit_and_row(self):
         for high in (0x10, 0x20, 0x40, 0x80, 0xF0):
-            for row in (0, 1, 12, 22):
-                self.assertEqual(self.links({row: high, 23: 0x10}), Drawing(72, row))
-            self.assertEqual(self.links({23: high}), Drawing(72, 23))
+            for row in (0, 1, 12, LAST_ROW - 1):
+                drawing = self.links({row: high, LAST_ROW: 0x10})
+                self.assertEqual(drawing, Drawing(ALL_EMPTY, row))
+            self.assertEqual(self.links({LAST_ROW: high}), Drawing(ALL_EMPTY, LAST_ROW))
 
     def test_none(self):
         drawing = self.links({})
-        self.assertEqual((drawing, drawing.wild, drawing.wild_row), ((72, None), False, None))
+        self.assertEqual(drawing, (ALL_EMPTY, None))
+        self.assertEqual((drawing.wild, drawing.wild_row), (False, None))
         for low, high in ((0x00, 0x08), (0x00, 0x0F), (0xFF, 0x00), (0xF0, 0x07)):
             drawing = self.computer.load(bytes([0xFF, low, high]) + bytes(4093), b"\x03" * 4096)
             self.assertEqual(drawing, Drawing(3 + 81, None))
             self.assertEqual(self.computer.row(1).start, 256 * high + low)
 
     def test_first(self):
-        drawing = self.links({5: 0x80, 6: 0x10, 23: 0xF0})
-        self.assertEqual((drawing.reads, drawing.wild, drawing.wild_row), (72, True, 5))
+        drawing = self.links({5: 0x80, 6: 0x10, LAST_ROW: 0xF0})
+        self.assertEqual((drawing.reads, drawing.wild, drawing.wild_row),
+                         (ALL_EMPTY, True, 5))
         self.assertEqual(self.computer.power_up(), drawing)
         self.assertEqual(self.computer.store(SCREEN + 8 * 5 + 2, 0x00), 0)
-        self.assertEqual(self.computer.draw(), Drawing(72, 6))
+        self.assertEqual(self.computer.draw(), Drawing(ALL_EMPTY, 6))
 
     def test_loop(self):
         screen = bytearray(4096)
         screen[0:3], screen[256:259], screen[512:515] = b"\xff\0\1", b"\xff\0\2", b"\xff\0\x91"
-        self.assertEqual(self.computer.load(screen, b"\x03" * 4096), Drawing(72, 2))
+        self.assertEqual(self.computer.load(screen, b"\x03" * 4096), Drawing(ALL_EMPTY, 2))
 
     def test_torn_and_dark(self):
         for end, wild_row in ((80, 0), (81, None)):
@@ -490,7 +512,7 @@ class Watchdog(Case):
         self.watch(0, True, True)
         self.computer.watchdog_tick()
         self.watch(1, True, True)
-        self.refused(5, self.computer.scan_line, 24, 1)
+        self.refused(5, self.computer.scan_line, rainbow.ROWS, 1)
 
     def settings(self):
         """What the machine is asked."""
@@ -575,6 +597,133 @@ class Watchdog(Case):
         self.assertEqual(str(caught.exception), "8, the 8088 is in reset")
 
 
+class WholeScreen(Case):
+    """The lines of the whole screen, with rows that scroll."""
+
+    at_rest = [(line // 10, line % 10 + 1) for line in range(240)]
+
+    def rows(self, *scrolling, others=3):
+        """Draws rows of no cells; those of these numbers have the scrolling bit."""
+        screen, attribute = bytearray(4096), bytearray(4096)
+        for row in range(rainbow.ROWS):
+            screen[8 * row:8 * row + 3] = 0xFF, 8 * row + 8, 0
+            attribute[8 * row + 1] = others | (4 if row + 1 in scrolling else 0)
+        self.computer.load(screen, attribute)
+
+    def listed(self, latch):
+        """The list with this latch, of which every line can be drawn."""
+        self.computer.machine.latch = latch
+        lines = self.computer.list_lines()
+        self.assertEqual(len(lines), rainbow.LINES)
+        self.assertEqual(bytes(self.computer.list), bytes(sum(lines, ())))
+        return lines
+
+    def scans(self, lines, row):
+        """The scans of a row that show."""
+        return [scan for at, scan in lines if at == row]
+
+    def test_no_run(self):
+        self.rows()
+        for latch in range(10):
+            self.assertEqual(self.listed(latch), self.at_rest)
+
+    def test_latch_0(self):
+        for scrolling in ([5], range(1, 25), range(6, 20)):
+            self.rows(*scrolling)
+            for latch in (0, 16, 0xF0):
+                self.assertEqual(self.listed(latch), self.at_rest)
+
+    def test_run(self):
+        self.rows(7, 8, 9)
+        for latch in range(1, 10):
+            lines = self.listed(latch)
+            self.assertEqual(self.scans(lines, 7), list(range(latch + 1, 11)))
+            self.assertEqual(self.scans(lines, 9), list(range(1, latch + 1)))
+            for row in set(range(25)) - {7, 9}:
+                self.assertEqual(self.scans(lines, row), list(range(1, 11)))
+            self.assertEqual(lines, sorted(lines))
+
+    def test_run_of_one_row(self):
+        for row in (1, 12, LAST_ROW):
+            self.rows(row)
+            for latch in range(1, 10):
+                lines = self.listed(latch)
+                self.assertEqual(self.scans(lines, row), [])
+                self.assertEqual({at for at, _ in lines}, set(range(25)) - {row})
+
+    def test_first_run(self):
+        self.rows(3, 5, 6, 24)
+        lines = self.listed(9)
+        self.assertEqual(lines, [(row, scan) for row in range(25) if row != 3
+                                 for scan in range(1, 11)])
+
+    def test_every_run(self):
+        for first in range(rainbow.ROWS):
+            for end in range(first + 1, rainbow.ROWS + 1):
+                kinds = [7 if first <= row < end else 3 for row in range(rainbow.ROWS)]
+                for row, kind in enumerate(kinds):
+                    self.computer.picture[row * rainbow.RECORD_BYTES + rainbow.KIND_AT] = kind
+                for latch in (0, 1, 5, 9):
+                    self.assertEqual(self.listed(latch), lines_shown(kinds, latch))
+
+    def test_latch_is_read_modulo_16(self):
+        self.rows(7, 8, 9)
+        for latch in range(10):
+            for above in (16, 0x70, 0xF0):
+                self.assertEqual(self.listed(latch + above), self.listed(latch))
+
+    def test_latch_over_9(self):
+        for scrolling in ([], [4], range(1, 25)):
+            self.rows(*scrolling)
+            self.computer.list[:] = bytes(range(240)) * 2
+            for latch in range(256):
+                self.computer.machine.latch = latch
+                if latch % 16 > 9:
+                    self.refused(9, self.computer.list_lines)
+        self.computer.machine.latch = 10
+        with self.assertRaises(Refused) as caught:
+            self.computer.list_lines()
+        self.assertEqual(str(caught.exception),
+                         "9, a whole screen is asked for with the scroll latch over 9")
+
+    def test_latch_by_its_port(self):
+        self.rows(7, 8, 9)
+        for code in (0x01, 0x06):
+            self.computer.write_port(0x0C, code)
+        self.assertEqual(self.scans(self.computer.list_lines(), 7), [10])
+        self.computer.write_port(0x0C, 0x02)
+        self.refused(9, self.computer.list_lines)
+
+    def test_length_ahead_of_latch(self):
+        picture, listed = self.computer.picture, self.computer.list
+        for latch in (0, 9, 10, 15, 26):
+            machine = rainbow.Machine(latch=latch)
+            before = bytes(self.computer)
+            for sizes_lent in ((6699, 480), (6701, 480), (6700, 479), (6700, 481), (0, 0)):
+                lent = picture, sizes_lent[0], listed, sizes_lent[1]
+                self.assertEqual(rainbow.library.rainbow_list_lines(machine, *lent), 1)
+            self.assertEqual(bytes(self.computer), before)
+
+    def test_any_kind(self):
+        """The picture may hold any bytes: of a kind the low three bits count."""
+        for kind in range(256):
+            self.rows()
+            self.computer.picture[5 * rainbow.RECORD_BYTES + rainbow.KIND_AT] = kind
+            shown = self.at_rest if kind & 4 == 0 else lines_shown([3] * 5 + [7] + [3] * 19, 6)
+            self.assertEqual(self.listed(6), shown)
+
+    def test_each_line_is_drawn(self):
+        self.rows(*range(6, 25))
+        for row, scan in self.listed(5):
+            self.assertEqual(len(self.computer.scan_line(row, scan)), 800)
+
+    def test_in_reset(self):
+        self.rows(7, 8, 9)
+        wanted = self.listed(4)
+        self.computer.machine.reset = True
+        self.assertEqual(self.computer.list_lines(), wanted)
+
+
 class Calls(Case):
     """Each method beside the rule of its call."""
 
@@ -584,7 +733,7 @@ class Calls(Case):
         self.assertEqual(bytes(self.computer)[machine_at:], bytes(11))
         self.assertEqual(bytes(self.computer)[:picture_at], bytes(picture_at))
         kept = bytes(self.computer.picture)
-        self.assertNotEqual(kept, bytes(6432))
+        self.assertNotEqual(kept, bytes(rainbow.PICTURE_BYTES))
         self.computer.draw()
         self.assertEqual(bytes(self.computer.picture), kept)
 
@@ -593,7 +742,7 @@ class Calls(Case):
         drawn = bytes(self.computer)
         self.computer.write_port(0x04, 0x10)
         self.computer.picture[0] = 9
-        self.assertEqual(self.computer.power_up(), Drawing(72, 0))
+        self.assertEqual(self.computer.power_up(), Drawing(ALL_EMPTY, 0))
         self.assertEqual(bytes(self.computer), drawn)
 
     def settings(self):
@@ -641,10 +790,10 @@ class Calls(Case):
         self.refused(5, self.computer.write_shadow, 2 ** 64 - 1, 0)
 
     def test_scan_line(self):
-        for row, scan in ((24, 1), (0, 0), (0, 11), (2 ** 64 - 1, 2 ** 64 - 1)):
+        for row, scan in ((LAST_ROW + 1, 1), (0, 0), (0, 11), (2 ** 64 - 1, 2 ** 64 - 1)):
             self.refused(5, self.computer.scan_line, row, scan)
         self.computer.line[799], self.computer.line[1187] = 3, 3
-        self.assertEqual(self.computer.scan_line(23, 10), bytes(800))
+        self.assertEqual(self.computer.scan_line(LAST_ROW, 10), bytes(800))
         self.assertEqual(bytes(self.computer.line), bytes(1188))
 
     def test_glyph(self):
@@ -668,7 +817,8 @@ class Calls(Case):
         self.assertEqual(self.computer.write_port(0x04, 0x10), 2)
         self.assertEqual(self.computer.text(1), "A" * 66)
         self.assertEqual(self.computer.write_port(0x04, 0x10), 0)
-        for row in (24, 2 ** 64 - 1):
+        self.assertEqual(self.computer.row(LAST_ROW), DARK_ROW)
+        for row in (LAST_ROW + 1, 2 ** 64 - 1):
             self.refused(5, self.computer.row, row)
             self.refused(5, self.computer.text, row)
 
@@ -685,14 +835,14 @@ class Calls(Case):
         self.assertEqual(self.computer.text(0), "." * 80 + " " * 52)
 
     def test_marked_rows(self):
-        self.assertEqual(self.computer.marked_rows(0x800005), [0, 2, 23])
+        self.assertEqual(self.computer.marked_rows(0x3000005), [0, 2, 24])
         self.assertEqual(rainbow.marked_rows(0), [])
 
     def test_load(self):
         screen, attribute = bytes([1, 0xFF] * 2048), bytearray([3, 5] * 2048)
         ctypes_array = (ctypes.c_uint8 * 4096).from_buffer_copy(screen)
         drawing = self.computer.load(ctypes_array, memoryview(attribute))
-        self.assertEqual(drawing, Drawing(1 + 3 * 24, 0))
+        self.assertEqual(drawing, Drawing(1 + ALL_EMPTY, 0))
         self.assertEqual(bytes(self.computer.screen), screen)
         self.assertEqual(bytes(self.computer.attribute), attribute)
         self.computer.load(self.computer.attribute, self.computer.screen)
@@ -768,7 +918,7 @@ class Numbers(Case):
         self.assertEqual(self.computer.read_z80(0xFFFF), 0xFF)
         self.assertEqual(self.computer.read(0xFFFF), 0xFF)
         self.assertEqual(len(self.computer.glyph(0xFF)), 16)
-        self.assertEqual(rainbow.marked_rows(0xFFFFFFFF), list(range(24)))
+        self.assertEqual(rainbow.marked_rows(0xFFFFFFFF), list(range(rainbow.ROWS)))
 
 
 class Headers(unittest.TestCase):
@@ -778,7 +928,7 @@ class Headers(unittest.TestCase):
 
     def test_numbers(self):
         wanted = defines(self.calls)
-        self.assertGreaterEqual(len(wanted), 28)
+        self.assertGreaterEqual(len(wanted), 32)
         self.assertEqual({name: getattr(rainbow, name, None) for name in wanted}, wanted)
         pairs = (rainbow.RECORD_BYTES - rainbow.PAIRS_AT) // 2
         self.assertEqual(rainbow.PAIRS, pairs)
@@ -808,7 +958,7 @@ class Headers(unittest.TestCase):
 
     def test_functions(self):
         wanted = declarations(self.calls)
-        self.assertEqual(len(wanted), 22)
+        self.assertEqual(len(wanted), 23)
         self.assertEqual(list(rainbow.FUNCTIONS), list(wanted))
         for name, (answer, given) in wanted.items():
             function = getattr(rainbow.library, name)
@@ -818,7 +968,7 @@ class Headers(unittest.TestCase):
     def test_methods(self):
         """Each function of rainbow_computer.h is a method."""
         names = re.findall(r"^static inline .*\brainbow_computer_(\w+)\(", self.whole, flags=re.M)
-        self.assertEqual(len(names), 15)
+        self.assertEqual(len(names), 16)
         for name in names:
             self.assertTrue(callable(getattr(Computer, name)), name)
 
@@ -827,7 +977,7 @@ class Headers(unittest.TestCase):
         found = re.findall(r'case RAINBOW_(\w+): return "(.*)";', self.whole)
         wanted = {numbers[name]: text for name, text in found}
         self.assertEqual(dict(enumerate(rainbow.REFUSAL_TEXTS)), wanted)
-        self.assertEqual(list(wanted), list(range(9)))
+        self.assertEqual(list(wanted), list(range(10)))
 
 
 class Lent(Case):
@@ -880,6 +1030,8 @@ class Lent(Case):
             for at in lengths:
                 self.one_refused(name, call, arguments, at)
             self.assertEqual(bytes(self.computer), before, name)
+            if name == "rainbow_list_lines":
+                self.latch_refused(name, call, arguments, lengths)
             if name.endswith("_z80"):
                 self.held_refused(name, call, arguments, lengths)
             if name in self.of_the_8088:
@@ -887,7 +1039,15 @@ class Lent(Case):
             else:
                 self.assertEqual(self.in_reset(call, arguments), 0, name)
             self.assertEqual(self.refusal(call(*arguments)), 0, name)
-        self.assertEqual(functions, 11)
+        self.assertEqual(functions, 12)
+
+    def latch_refused(self, name, call, arguments, lengths):
+        """The latch is over 9: 9, but 1 where a length is wrong too."""
+        before, latched = bytes(self.computer), [rainbow.Machine(latch=10), *arguments[1:]]
+        self.assertEqual(self.refusal(call(*latched)), 9, name)
+        for at in lengths:
+            self.one_refused(name, call, latched, at)
+        self.assertEqual(bytes(self.computer), before, name)
 
     def held_refused(self, name, call, arguments, lengths):
         """The Z80 is held: 7, but 1 where a length is wrong too."""
@@ -948,7 +1108,7 @@ class Runs(Case):
 
     def in_a_row(self):
         """An address of screen or attribute memory that a row is likely to read."""
-        row = self.computer.row(self.random.randrange(24))
+        row = self.computer.row(self.random.randrange(rainbow.ROWS))
         place = row.start + self.random.randrange(row.cells + 3)
         return self.random.choice((SCREEN, ATTRIBUTE)) + place % 4096
 
@@ -956,7 +1116,7 @@ class Runs(Case):
         """Makes one call. The answer is its name, its marks if it has any, and a read that must
         give the byte stored, if one was."""
         computer, below, byte = self.computer, self.random.randrange, self.byte()
-        kind = below(11)
+        kind = below(12)
         if kind < 6:
             address = (below(0x10000) if kind == 0 else SCREEN - 32 + below(0x2040) if kind == 1
                        else self.in_a_row())
@@ -980,12 +1140,20 @@ class Runs(Case):
                 computer.watchdog_tick()
             computer.tick()
             return "ticks", 0, None
-        computer.scan_line(below(26), below(12))
+        if kind == 10:
+            shown = lines_shown(self.kinds(), computer.scroll_latch)
+            self.assertEqual(computer.list_lines(), shown)
+            return "list_lines", 0, None
+        computer.scan_line(below(rainbow.ROWS + 2), below(rainbow.LAST_SCAN + 2))
         return "scan_line", 0, None
+
+    def kinds(self):
+        """The kind of each row."""
+        return [self.computer.row(row).kind for row in range(rainbow.ROWS)]
 
     def first_wild(self):
         """The first row whose link is wild, by the kept picture and the screen."""
-        for number in range(24):
+        for number in range(rainbow.ROWS):
             row = self.computer.row(number)
             if row.torn or row.dark:
                 return None
@@ -1007,7 +1175,8 @@ class Runs(Case):
     def changed_rows(self, before):
         """The rows whose records differ from those of an earlier picture."""
         after = bytes(self.computer.picture)
-        records = [slice(row * 268, (row + 1) * 268) for row in range(24)]
+        size = rainbow.RECORD_BYTES
+        records = [slice(row * size, (row + 1) * size) for row in range(rainbow.ROWS)]
         return [row for row, record in enumerate(records) if before[record] != after[record]]
 
     def test_kept_picture(self):
@@ -1034,8 +1203,8 @@ class Runs(Case):
         # The run went everywhere that it should.
         for name, least in (("store", 6000), ("store_z80", 500), (7, 500), ("write_port", 500),
                             ("write_shadow", 500), ("scan_line", 500), ("ticks", 500), (8, 2000),
-                            ("marks", 500), ("columns", 100), (2, 5), (3, 100), (4, 100), (5, 100),
-                            (6, 1)):
+                            ("list_lines", 500), (9, 100), ("marks", 500), ("columns", 100), (2, 5),
+                            (3, 100), (4, 100), (5, 100), (6, 1)):
             self.assertGreaterEqual(seen.get(name, 0), least, name)
         self.assertLessEqual({None, 0, 1, 2, 3, 4}, self.named)
 
@@ -1151,9 +1320,9 @@ class Finding(unittest.TestCase):
         with tempfile.TemporaryDirectory() as folder:
             os.mkdir(os.path.join(folder, "python"))
             shutil.copy(os.path.join(HERE, "rainbow.py"), os.path.join(folder, "python"))
-            shutil.copy(file, os.path.join(folder, "librainbow.so.5"))
+            shutil.copy(file, os.path.join(folder, f"librainbow.so.{rainbow.VERSION}"))
             told = self.imported(os.path.join(folder, "python"), LD_LIBRARY_PATH=folder)
-            self.assertEqual(told, "librainbow.so.5\n")
+            self.assertEqual(told, f"librainbow.so.{rainbow.VERSION}\n")
 
     def library_file(self):
         """The file of the library that is being tested."""
@@ -1175,7 +1344,7 @@ class Finding(unittest.TestCase):
 
     def test_order(self):
         built = os.path.join(os.path.realpath(ROOT), "target", "library", "librainbow.so")
-        places = [built, "librainbow.so.5", "librainbow.so"]
+        places = [built, f"librainbow.so.{rainbow.VERSION}", "librainbow.so"]
         self.assertEqual(self.tried(None), places)
         self.assertEqual(self.tried("librainbow.so.9"), places + ["librainbow.so.9"])
         self.assertEqual(self.tried("librainbow.so.9", RAINBOW_LIBRARY="/a/b"), ["/a/b"])
@@ -1183,12 +1352,14 @@ class Finding(unittest.TestCase):
 
     def test_version(self):
         self.assertEqual(rainbow.library.rainbow_version(), rainbow.VERSION)
-        other = types.SimpleNamespace(rainbow_version=lambda: 4)
-        with self.assertRaisesRegex(ImportError, "version 4, .* for 5$"):
+        wrong = rainbow.VERSION - 1
+        other = types.SimpleNamespace(rainbow_version=lambda: wrong)
+        told = f"version {wrong}, .* for {rainbow.VERSION}$"
+        with self.assertRaisesRegex(ImportError, told):
             rainbow.set_up(other)
 
     def test_function_missing(self):
-        other = types.SimpleNamespace(rainbow_version=lambda: 5)
+        other = types.SimpleNamespace(rainbow_version=lambda: rainbow.VERSION)
         with self.assertRaisesRegex(ImportError, "rainbow_power_up"):
             rainbow.set_up(other)
 

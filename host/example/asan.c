@@ -9,18 +9,19 @@
 #include <sys/mman.h>
 #include <unistd.h>
 
-enum { SHARED, PRIVATE, SCREEN, ATTRIBUTE, GLYPHS, NVM, SHADOW, PICTURE, FRESH, LINE, BUFFERS };
+enum { SHARED, PRIVATE, SCREEN, ATTRIBUTE, GLYPHS, NVM, SHADOW, PICTURE, FRESH, LINE, LIST, BUFFERS };
 static const size_t listed[BUFFERS] = {
     RAINBOW_SHARED_BYTES, RAINBOW_PRIVATE_BYTES, RAINBOW_SCREEN_BYTES,  RAINBOW_ATTRIBUTE_BYTES, RAINBOW_GLYPH_BYTES,
-    RAINBOW_NVM_BYTES,    RAINBOW_SHADOW_BYTES,  RAINBOW_PICTURE_BYTES, RAINBOW_PICTURE_BYTES,   RAINBOW_LINE_BYTES};
+    RAINBOW_NVM_BYTES,    RAINBOW_SHADOW_BYTES,  RAINBOW_PICTURE_BYTES, RAINBOW_PICTURE_BYTES,   RAINBOW_LINE_BYTES,
+    RAINBOW_LIST_BYTES};
 enum { AT_END, AT_START, ON_HEAP, WAYS };
-enum { MOST_READS = 3240 }; /* of a drawing, at 132 columns */
+enum { MOST_READS = 3375 }; /* of a drawing, at 132 columns */
 
 static uint8_t *buffers[WAYS][BUFFERS];
 static uint8_t *fence; /* a page that may not be touched */
 static uint8_t *closed[BUFFERS]; /* buffers of which no byte may be touched */
 static size_t page;
-static unsigned long calls, named, z80_ran, z80_held, ran_8088, reset_8088;
+static unsigned long calls, named, z80_ran, z80_held, ran_8088, reset_8088, lists;
 static uint64_t seed = 0x9E3779B97F4A7C15u;
 
 static uint32_t below(uint32_t n)
@@ -144,13 +145,27 @@ static void z80_refused(rainbow_machine machine, uint8_t refusal)
     *(runs ? &z80_ran : &z80_held) += 1;
 }
 
+/* Each line of a list is one that a scan line can be drawn of. */
+static void list(rainbow_machine machine, uint8_t **b)
+{
+    uint8_t refusal = rainbow_list_lines(machine, b[PICTURE], listed[PICTURE], b[LIST], listed[LIST]);
+    if (refusal != (rainbow_scroll_latch(machine) > 9 ? RAINBOW_REFUSED_LATCH : RAINBOW_ACCEPTED))
+        fail("a whole screen is not refused as it should be");
+    if (refusal != RAINBOW_ACCEPTED)
+        return;
+    for (size_t at = 0; at < listed[LIST]; at += 2)
+        if (b[LIST][at] >= RAINBOW_ROWS || b[LIST][at + 1] < RAINBOW_FIRST_SCAN || b[LIST][at + 1] > RAINBOW_LAST_SCAN)
+            fail("a line is listed that is none");
+    lists++;
+}
+
 /* One call that keeps the picture true. */
 static void call(rainbow_machine machine, uint8_t **b)
 {
     size_t place = below(300);
     uint16_t z80 = (uint16_t)(below(2) == 0 ? below(0x1000) : below(0x10000));
     uint8_t byte = below(5) == 0 ? 0xFF : any();
-    switch (below(8)) {
+    switch (below(9)) {
     case 0:
         refused_8088(machine, rainbow_read_8088(machine, b[SHARED], listed[SHARED], b[SCREEN], listed[SCREEN],
                                                 b[ATTRIBUTE], listed[ATTRIBUTE], address()).refusal);
@@ -169,6 +184,7 @@ static void call(rainbow_machine machine, uint8_t **b)
         rainbow_scan_line(machine, b[PICTURE], listed[PICTURE], b[GLYPHS], listed[GLYPHS],
                           below(RAINBOW_ROWS + 2), below(RAINBOW_LAST_SCAN + 2), b[LINE], listed[LINE]);
         break;
+    case 6: list(machine, b); break;
     default:
         refused_8088(machine, rainbow_store_with_picture(machine, b[SHARED], listed[SHARED], b[SCREEN], listed[SCREEN],
                                                          b[ATTRIBUTE], listed[ATTRIBUTE], b[PICTURE], listed[PICTURE],
@@ -188,6 +204,8 @@ static void refused(rainbow_machine machine, uint8_t **b)
     bool all = stored.refusal == 1 && one.refusal == 1 && other.refusal == 1 && !one.wild && !other.wild &&
                one.wild_row == 0 && other.wild_row == 0 &&
                rainbow_scan_line(machine, fence, length, fence, 0, 0, 1, fence, 3) == 1 &&
+               rainbow_list_lines(machine, fence, length, b[LIST], listed[LIST]) == 1 &&
+               rainbow_list_lines(machine, closed[PICTURE], listed[PICTURE], fence, listed[LIST] - 1) == 1 &&
                rainbow_glyph_part(fence, length, any()).refusal == 1 &&
                rainbow_read_8088(machine, fence, 7, fence, 0, fence, length, address()).refusal == 1 &&
                rainbow_store_8088(machine, b[SHARED], listed[SHARED], fence, 7, fence, 0, address(), any()) == 1 &&
@@ -235,6 +253,15 @@ static void stopped(rainbow_machine machine)
         fail("an 8088 in reset is not refused by 8");
 }
 
+/* Nor does a whole screen with a latch over 9. */
+static void latched(rainbow_machine machine)
+{
+    machine.latch = (uint8_t)(10 + below(6) + 16 * below(16));
+    if (rainbow_list_lines(machine, closed[PICTURE], listed[PICTURE], closed[LIST], listed[LIST]) !=
+        RAINBOW_REFUSED_LATCH)
+        fail("a latch over 9 is not refused by 9");
+}
+
 int main(void)
 {
     make_buffers();
@@ -250,9 +277,10 @@ int main(void)
             refused(machine, b);
             held(machine);
             stopped(machine);
+            latched(machine);
             if (draw(machine, b, FRESH) != 0 || memcmp(b[PICTURE], b[FRESH], listed[PICTURE]) != 0)
                 fail("the kept picture differs from a fresh one");
-            calls += 73;
+            calls += 76;
         }
     }
     for (int buffer = 0; buffer < BUFFERS; buffer++)
@@ -263,6 +291,8 @@ int main(void)
         fail("the Z80 was always held, or never");
     if (ran_8088 < 1000 || reset_8088 < 1000)
         fail("the 8088 was seldom in reset, or seldom not");
+    if (lists == 0)
+        fail("no whole screen was listed");
     printf("%lu calls touched nothing outside of their buffers\n", calls);
     return 0;
 }

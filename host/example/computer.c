@@ -4,10 +4,10 @@
 #include <stdio.h>
 #include <stdlib.h>
 
-enum { CALLS = 200000 };
+enum { CALLS = 200000, LAST_ROW = RAINBOW_ROWS - 1 };
 
 static rainbow_computer c, twin; /* the twin is changed by the calls of rainbow.h alone */
-static uint32_t seed = 1, z80_ran, z80_held, ran_8088, reset_8088;
+static uint32_t seed = 1, z80_ran, z80_held, ran_8088, reset_8088, listed, not_listed;
 
 static uint32_t below(uint32_t n)
 {
@@ -88,13 +88,17 @@ static void read_and_draw(void)
            "a read of the Z80");
     expect(rainbow_z80_runs(c.machine) == runs, "whether the Z80 runs");
     *(runs ? &z80_ran : &z80_held) += 1;
-    size_t place = below(300), row = below(26), scan = below(12);
+    size_t place = below(300), row = below(RAINBOW_ROWS + 2), scan = below(RAINBOW_LAST_SCAN + 2);
     read = rainbow_computer_read_shadow(&c, place);
     expect(read.refusal == (reset ? 8 : place > 255 ? 5 : 0) &&
                read.byte == (reset || place > 255 ? 0 : twin.shadow[place] % 16), "a read of the shadow");
     uint8_t refusal = rainbow_scan_line(twin.machine, twin.picture, sizeof twin.picture, twin.glyphs,
                                         sizeof twin.glyphs, row, scan, twin.line, sizeof twin.line);
     expect(rainbow_computer_scan_line(&c, row, scan) == refusal, "a scan line");
+    refusal = rainbow_list_lines(twin.machine, twin.picture, sizeof twin.picture, twin.list, sizeof twin.list);
+    expect(rainbow_computer_list_lines(&c) == refusal, "the lines of the whole screen");
+    expect(refusal == (rainbow_scroll_latch(c.machine) > 9 ? 9 : 0), "the refusal of a whole screen");
+    *(refusal == 0 ? &listed : &not_listed) += 1;
 }
 
 static void one_call(void)
@@ -158,18 +162,52 @@ static void rows(void)
     expect(row.start == 0x150 && row.kind == 6 && row.count == RAINBOW_TORN && row.cells == 40, "row 1, torn");
     row = rainbow_computer_row(&d, 2);
     expect(row.count == RAINBOW_DARK && row.cells == 0 && row.kind == 3, "row 2, dark");
-    row = rainbow_computer_row(&d, 24);
-    expect(row.refusal == 5 && row.count == 0 && row.cells == 0, "row 24");
-    expect(rainbow_computer_text(&d, 24, text) == 0 && text[0] == 0, "the text of row 24");
+    row = rainbow_computer_row(&d, LAST_ROW);
+    expect(row.refusal == 0 && row.count == RAINBOW_DARK, "the last row");
+    row = rainbow_computer_row(&d, LAST_ROW + 1);
+    expect(row.refusal == 5 && row.count == 0 && row.cells == 0, "a row after the last");
+    expect(rainbow_computer_text(&d, LAST_ROW + 1, text) == 0 && text[0] == 0, "the text of a row after the last");
     expect(rainbow_computer_write_port(&d, 0x04, 0x10).marks == 2, "the marks of a change to 132 columns");
     expect(rainbow_computer_row(&d, 1).cells == 66, "row 1 at 132 columns");
     expect(rainbow_computer_glyph(&d, 3) == d.glyphs + 48, "a glyph's bytes");
-    d.picture[23 * RAINBOW_RECORD_BYTES + RAINBOW_COUNT_AT] = 253; /* by hand */
-    expect(rainbow_computer_row(&d, 23).cells == 132, "133 cells or more");
-    expect(rainbow_computer_text(&d, 23, text) == 132, "the text of 133 cells or more");
+    d.picture[LAST_ROW * RAINBOW_RECORD_BYTES + RAINBOW_COUNT_AT] = 253; /* by hand */
+    expect(rainbow_computer_row(&d, LAST_ROW).cells == 132, "133 cells or more");
+    expect(rainbow_computer_text(&d, LAST_ROW, text) == 132, "the text of 133 cells or more");
     memcpy(d.screen + 0x150, "\xFF\x00\x42", 3);
     drawn = rainbow_computer_draw(&d);
     expect(drawn.wild && drawn.wild_row == 1 && rainbow_computer_row(&d, 2).start == 0x200, "a wild link in row 1");
+}
+
+/* The line that stands at a place of the list. */
+static bool shows(const rainbow_computer *d, size_t line, uint8_t row, uint8_t scan)
+{
+    return d->list[2 * line] == row && d->list[2 * line + 1] == scan;
+}
+
+/* Rows 3 to 5 scroll; a latch of 4 is loaded by code 05, one of 12 by code 07. */
+static void lists(void)
+{
+    static rainbow_computer d, before;
+    for (uint8_t row = 0; row < RAINBOW_ROWS; row++) {
+        memcpy(d.screen + 8 * row, "\xFF\x00\x00", 3);
+        d.screen[8 * row + 1] = (uint8_t)(8 * (row + 1));
+        d.attribute[8 * row + 1] = row >= 2 && row < 5 ? 7 : 3; /* of the row pointed to */
+    }
+    rainbow_computer_power_up(&d);
+    expect(rainbow_computer_list_lines(&d) == 0, "the list at rest");
+    for (size_t line = 0; line < RAINBOW_LINES; line++)
+        expect(shows(&d, line, (uint8_t)(line / 10), (uint8_t)(line % 10 + 1)), "a line at rest");
+    rainbow_computer_write_port(&d, 0x0C, 0x05);
+    expect(rainbow_computer_list_lines(&d) == 0, "the list with latch 4");
+    expect(shows(&d, 29, 2, 10) && shows(&d, 30, 3, 5), "the top of the run with latch 4");
+    expect(shows(&d, 49, 5, 4) && shows(&d, 50, 6, 1), "the bottom of the run with latch 4");
+    expect(shows(&d, RAINBOW_LINES - 1, LAST_ROW, 10), "the last line with latch 4");
+    for (size_t line = 0; line < RAINBOW_LINES; line++)
+        expect(rainbow_computer_scan_line(&d, d.list[2 * line], d.list[2 * line + 1]) == 0, "a line of the list");
+    rainbow_computer_write_port(&d, 0x0C, 0x07);
+    before = d;
+    expect(rainbow_computer_list_lines(&d) == 9, "the list with latch 12");
+    expect(memcmp(&d, &before, sizeof d) == 0, "a refused list");
 }
 
 /* A Z80 that is held touches no memory. */
@@ -259,10 +297,12 @@ int main(void)
     }
     expect(z80_ran > 1000 && z80_held > 1000, "the Z80 was seldom held, or seldom not");
     expect(ran_8088 > 1000 && reset_8088 > 1000, "the 8088 was seldom in reset, or seldom not");
+    expect(listed > 1000 && not_listed > 1000, "a whole screen was seldom listed, or seldom not");
     rows();
+    lists();
     z80();
     watchdog();
-    for (int refusal = 0; refusal <= 9; refusal++)
+    for (int refusal = 0; refusal <= RAINBOW_REFUSED_LATCH + 1; refusal++)
         printf("%d: %s\n", refusal, rainbow_refusal_text((uint8_t)refusal));
     return 0;
 }

@@ -1,11 +1,13 @@
-/* Lays two rows of text on the Rainbow's screen, draws them, changes a letter, prints a scan of the dots, leaves
- * rubbish in a link, lets the Z80 run, and leaves the watchdog alone until it resets the 8088. */
+/* Lays two rows of text on the Rainbow's screen, draws them, changes a letter, prints a scan of the dots, scrolls the
+ * rows below smoothly, leaves rubbish in a link, lets the Z80 run, and leaves the watchdog alone until it resets the
+ * 8088. */
 #include "rainbow.h"
 #include <stdio.h>
 
 static uint8_t shared[RAINBOW_SHARED_BYTES], screen[RAINBOW_SCREEN_BYTES], attribute[RAINBOW_ATTRIBUTE_BYTES];
 static uint8_t nvm[RAINBOW_NVM_BYTES], shadow[RAINBOW_SHADOW_BYTES], glyphs[RAINBOW_GLYPH_BYTES];
 static uint8_t picture[RAINBOW_PICTURE_BYTES], line[RAINBOW_LINE_BYTES], private_memory[RAINBOW_PRIVATE_BYTES];
+static uint8_t list[RAINBOW_LIST_BYTES];
 
 static uint8_t store_byte(rainbow_machine machine, uint32_t address, uint8_t byte)
 {
@@ -78,6 +80,29 @@ static void print_row(size_t row)
     puts("|");
 }
 
+static void print_line(size_t number)
+{
+    printf("line %d is scan %d of row %d\n", (int)number, list[2 * number + 1], list[2 * number]);
+}
+
+/* Rows 2 to 24 scroll: they move up by as many scans as the latch says, here by four. Code 05 to port 0C makes the
+ * latch's high two bits 1. */
+static void print_scrolled(rainbow_machine machine)
+{
+    store(machine, 0x10C, 0x00, 7); /* the low byte of the link of row 1, and the kind of row 2 */
+    store(machine, 0x201, 0x00, 7); /* the same of row 2, which leads to itself */
+    draw(machine);
+    machine = rainbow_write_port(machine, shadow, sizeof shadow, nvm, sizeof nvm, 0x0C, 0x05).machine;
+    printf("latch %d, refusal %d\n", rainbow_scroll_latch(machine),
+           rainbow_list_lines(machine, picture, sizeof picture, list, sizeof list));
+    print_line(19);
+    print_line(20);
+    print_line(RAINBOW_LINES - 1);
+    machine = rainbow_write_port(machine, shadow, sizeof shadow, nvm, sizeof nvm, 0x0C, 0x07).machine;
+    printf("latch %d, refusal %d\n", rainbow_scroll_latch(machine),
+           rainbow_list_lines(machine, picture, sizeof picture, list, sizeof list));
+}
+
 int main(void)
 {
     rainbow_machine machine = rainbow_power_up();
@@ -105,6 +130,8 @@ int main(void)
     for (size_t dot = 0; dot < 60; dot++)
         putchar(line[dot] != 0 ? '#' : '.');
     putchar('\n');
+
+    print_scrolled(machine);
 
     store(machine, 0x10D, 0x92, 0x0E); /* the high byte of the link of row 1, which still leads to 0200 */
     print_drawn(draw(machine));

@@ -7,7 +7,7 @@
 static uint8_t shared[RAINBOW_SHARED_BYTES], screen[RAINBOW_SCREEN_BYTES], attribute[RAINBOW_ATTRIBUTE_BYTES];
 static uint8_t private_memory[RAINBOW_PRIVATE_BYTES], glyphs[RAINBOW_GLYPH_BYTES];
 static uint8_t nvm[RAINBOW_NVM_BYTES], shadow[RAINBOW_SHADOW_BYTES];
-static uint8_t picture[RAINBOW_PICTURE_BYTES], line[RAINBOW_LINE_BYTES];
+static uint8_t picture[RAINBOW_PICTURE_BYTES], line[RAINBOW_LINE_BYTES], list[RAINBOW_LIST_BYTES];
 static int wrong = 0;
 
 static void expect(bool holds, const char *what)
@@ -24,20 +24,22 @@ typedef struct {
     size_t length;
 } buffer;
 
-enum { BUFFERS = 9 };
+enum { BUFFERS = 10 };
 static const buffer right[BUFFERS] = {
     {shared, sizeof shared}, {private_memory, sizeof private_memory}, {screen, sizeof screen},
     {attribute, sizeof attribute}, {glyphs, sizeof glyphs}, {nvm, sizeof nvm}, {shadow, sizeof shadow},
-    {picture, sizeof picture}, {line, sizeof line}};
+    {picture, sizeof picture}, {line, sizeof line}, {list, sizeof list}};
 
 /* Whether a call with these buffers is refused by 1, if it is lent buffer `other`, and accepted if not; or refused by
- * 7, if it is the Z80's and the Z80 is held, or by 8, if it is the 8088's and the 8088 is in reset. */
+ * 7, if it is the Z80's and the Z80 is held, by 8, if it is the 8088's and the 8088 is in reset, or by 9, if it is the
+ * whole screen's and the latch is over 9. */
 static void call_all(const buffer *b, int other, bool reset)
 {
     rainbow_machine m = rainbow_power_up();
     m.reset = reset;
     uint8_t otherwise = reset ? 8 : 0; /* of a call of the 8088 */
-    const buffer *s = b, *z = b + 1, *c = b + 2, *a = b + 3, *g = b + 4, *n = b + 5, *h = b + 6, *p = b + 7, *l = b + 8;
+    const buffer *s = b, *z = b + 1, *c = b + 2, *a = b + 3, *g = b + 4, *n = b + 5, *h = b + 6, *p = b + 7, *l = b + 8,
+                 *w = b + 9;
     bool main_three = other == 0 || other == 2 || other == 3;
     uint8_t wanted = main_three ? 1 : otherwise;
     expect(rainbow_read_8088(m, s->bytes, s->length, c->bytes, c->length, a->bytes, a->length, 5).refusal == wanted,
@@ -66,6 +68,11 @@ static void call_all(const buffer *b, int other, bool reset)
     expect(rainbow_glyph_part(g->bytes, g->length, 5).refusal == (other == 4), "glyph_part");
     expect(rainbow_scan_line(m, p->bytes, p->length, g->bytes, g->length, 5, 5, l->bytes, l->length) ==
                (other == 4 || other == 7 || other == 8), "scan_line");
+    for (uint8_t latch = 9; latch <= 10; latch++) {
+        m.latch = latch;
+        wanted = other == 7 || other == 9 ? 1 : latch > 9 ? 9 : 0;
+        expect(rainbow_list_lines(m, p->bytes, p->length, w->bytes, w->length) == wanted, "list_lines");
+    }
 }
 
 static void lengths(void)

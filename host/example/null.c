@@ -45,6 +45,10 @@ int main(void)
     rainbow_part_place part = rainbow_glyph_part(NULL, 0, 0x41);
     expect(part.refusal == 1 && part.at == 0 && part.length == 0, "glyph_part");
     expect(rainbow_scan_line(machine, NULL, 0, NULL, 0, 0, 1, NULL, 0) == 1, "scan_line");
+    for (uint8_t latch = 9; latch <= 10; latch++) { /* 1 is ahead of 9 */
+        machine.latch = latch;
+        expect(rainbow_list_lines(machine, NULL, 0, NULL, 0) == 1, "list_lines");
+    }
     if (wrong == 0)
         puts("NULL is refused by 1 everywhere");
     return wrong;

@@ -17,7 +17,7 @@
 //! let machine = Machine::power_up();
 //!
 //! let drawn = picture::draw(machine, &screen, &attribute, &mut picture);
-//! assert_eq!((drawn.refusal, drawn.reads), (0, 72));
+//! assert_eq!((drawn.refusal, drawn.reads), (0, 75));
 //! assert_eq!((drawn.wild, drawn.wild_row), (true, 0)); // the link of row 0 has its top four bits set
 //!
 //! let stored = mending::store_with_picture(
@@ -40,6 +40,7 @@
 //! | [`mending::store_with_picture`], [`marks::is_marked`] | the 8088 stores, and the picture is mended; which rows changed |
 //! | [`glyphs::part`], [`glyphs::refusal`] | the sixteen bytes of a code in the glyph table |
 //! | [`scan_line::draw`], [`scan_line::dots_of_line`] | the dots of a scan line |
+//! | [`whole_screen::list_lines`] | the row and the scan of each of the 240 lines that show, as the scroll latch says |
 //! | [`listing::list_rows`] | the row lister's text, and what the drawing answers |
 //!
 //! While the 8088 is in reset its calls are refused by 8. Draw the picture afresh after each change of the column

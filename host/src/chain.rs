@@ -4,7 +4,8 @@ use crate::Answer;
 use std::cell::RefCell;
 
 pub const PLACES: usize = 4096;
-pub const ROWS: usize = 24;
+/// 02, ticket 5: "The chain is now walked for 25 rows".
+pub const ROWS: usize = 25;
 pub const RECORD: usize = 268;
 pub const PICTURE: usize = ROWS * RECORD;
 
@@ -247,8 +248,8 @@ mod tests {
         (start, record[KIND_AT], record[COUNT_AT])
     }
 
-    /// "screen all FF, attribute all 00, 80 columns: row 0: start 0, kind 3, count 0; rows 1 to 23: start 4095,
-    /// kind 0, count 0; 72 read". "Stopping at place 4095: P1 needs the wrap."
+    /// "screen all FF, attribute all 00, 80 columns: row 0: start 0, kind 3, count 0", all others "start 4095, kind 0,
+    /// count 0". "Stopping at place 4095: P1 needs the wrap." 02, ticket 5: "P1, P2 and P13 gain a row, and P1 reads 75".
     #[test]
     fn p1_all_ff() {
         let drawn = drawn(&memory(0xFF, &[]), &memory(0x00, &[]), 80);
@@ -256,7 +257,7 @@ mod tests {
         for row in 1..ROWS {
             assert_eq!(head(&drawn, row), (4095, 0, 0));
         }
-        assert_eq!(drawn.reads, 72);
+        assert_eq!(drawn.reads, 75);
     }
 
     /// "both all 00, 80 columns: row 0 torn, others dark; 81 read". "It shows its capacity cells, and all later rows
@@ -327,7 +328,8 @@ mod tests {
         assert_eq!(head(&drawn, 1).1, 5);
     }
 
-    /// "There are always 24 rows. A chain that loops shows rows again."
+    /// "A chain that loops shows rows again." 02, ticket 5: "The chain is now walked for 25 rows", "the picture has
+    /// 6,700 bytes".
     #[test]
     fn a_loop_shows_rows_again() {
         let laid: [(usize, &[u8]); 2] = [
@@ -335,7 +337,7 @@ mod tests {
             (256, &[0x42, 0x43, 0xFF, 0x00, 0x00]),
         ];
         let drawn = drawn(&memory(0x00, &laid), &memory(3, &[]), 80);
-        assert_eq!(drawn.picture.len(), 24 * 268);
+        assert_eq!(drawn.picture.len(), 6700);
         for row in 0..ROWS {
             let shown = if row % 2 == 0 { (0, 3, 1) } else { (256, 3, 2) };
             assert_eq!(head(&drawn, row), shown);
@@ -376,10 +378,11 @@ mod tests {
         assert_eq!(drawn(&screen, &memory(2, &[]), 132).reads, 5 + 3 + 67);
     }
 
-    /// "at most 3,240 at 132 columns and 1,992 at 80": rows of as many cells as may be.
+    /// "at most", at 132 columns and at 80: rows of as many cells as may be. 02, ticket 5: "the read bounds are 3,375
+    /// and 2,075".
     #[test]
     fn most_bytes_read() {
-        for (columns, most) in [(132, 3240), (80, 1992)] {
+        for (columns, most) in [(132, 3375), (80, 2075)] {
             let screen = memory(0x41, &[(columns, &[0xFF, 0x00, 0x00])]);
             assert_eq!(drawn(&screen, &memory(3, &[]), columns).reads, most);
         }
@@ -472,7 +475,12 @@ mod tests {
     /// "each drawing should name the first such row": the last row's link counts, that of a row after it does not.
     #[test]
     fn the_last_row_counts() {
-        for (row, named) in [(22, Some(22)), (23, Some(23)), (24, None)] {
+        let last = ROWS - 1;
+        for (row, named) in [
+            (last - 1, Some(last - 1)),
+            (last, Some(last)),
+            (last + 1, None),
+        ] {
             let screen = links(|other| if other == row { 0x10 } else { 0 });
             assert_eq!(drawn(&screen, &memory(3, &[]), 80).wild, named);
         }

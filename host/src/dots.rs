@@ -1,7 +1,8 @@
-//! Document 01, "Dots": the part of the glyph table that is a code's, a scan line, and the picture of the
-//! whole tube.
+//! Document 01, "Dots": the part of the glyph table that is a code's, and a scan line; and the picture of the
+//! whole tube, by the list of its lines.
 use crate::chain::{draw, COUNT_AT, DARK, KIND_AT, PAIRS_AT, PICTURE, RECORD, ROWS};
 use crate::machine::Machine;
+use crate::screen::{list_lines, LINES, LIST};
 use crate::Answer;
 
 pub const GLYPHS: usize = 4096;
@@ -96,21 +97,21 @@ pub fn scan_line(
     Ok(())
 }
 
-/// What the tube shows of memories of the right lengths, as a PGM of four greys. Each line is there twice,
-/// for a tube's dots are about twice as high as they are wide.
+/// What the tube shows of memories of the right lengths, at a latch of 0 to 9, as a PGM of four greys. Each line is
+/// there twice, for a tube's dots are about twice as high as they are wide.
 pub fn tube(machine: &Machine, screen: &[u8], attribute: &[u8], table: &[u8]) -> Vec<u8> {
     let drawn = draw(screen, attribute, machine.columns.into())
         .ok()
         .unwrap();
     let width = line_dots(machine);
-    let mut pgm = format!("P5\n{width} {}\n3\n", ROWS * SCANS * 2).into_bytes();
+    let mut list = [0; LIST];
+    list_lines(machine, &drawn.picture, &mut list).unwrap();
+    let mut pgm = format!("P5\n{width} {}\n3\n", LINES * 2).into_bytes();
     let mut line = [0; LINE];
-    for row in 0..ROWS {
-        for scan in 1..=SCANS {
-            let answer = scan_line(machine, &drawn.picture, table, row, scan, &mut line);
-            answer.ok().unwrap();
-            pgm.extend(line[..width].repeat(2));
-        }
+    for shown in list.chunks(2) {
+        let (row, scan) = (shown[0].into(), shown[1].into());
+        scan_line(machine, &drawn.picture, table, row, scan, &mut line).unwrap();
+        pgm.extend(line[..width].repeat(2));
     }
     pgm
 }
@@ -119,6 +120,7 @@ pub fn tube(machine: &Machine, screen: &[u8], attribute: &[u8], table: &[u8]) ->
 mod tests {
     use super::*;
     use crate::chain::{PAIRS, PLACES};
+    use crate::tube_sample::milking;
 
     const PLAIN: u8 = 0x0E;
 
@@ -282,5 +284,31 @@ mod tests {
         let head = b"P5\n1188 480\n3\n";
         assert_eq!(&pgm[..head.len()], head);
         assert_eq!(pgm.len(), head.len() + 1188 * 480);
+    }
+
+    /// 02, ticket 5: on the page whose rows 7 to 24 scroll, the rows above stand still, and the others move up by as
+    /// many lines as the latch says.
+    #[test]
+    fn a_tube_scrolls_by_the_latch() {
+        let memories = milking().unwrap();
+        let (screen, rest) = memories.split_at(PLACES);
+        let (attribute, table) = rest.split_at(PLACES);
+        let lines = |latch: u8| -> Vec<Vec<u8>> {
+            let machine = Machine {
+                latch,
+                ..machine(80)
+            };
+            let pgm = tube(&machine, screen, attribute, table);
+            let dots = &pgm[b"P5\n800 480\n3\n".len()..];
+            dots.chunks(2 * 800).map(<[u8]>::to_vec).collect()
+        };
+        let at_rest = lines(0);
+        for latch in 1..10 {
+            let moved = lines(latch);
+            let latch = usize::from(latch);
+            assert_eq!(moved[..70], at_rest[..70]);
+            assert_eq!(moved[70..240 - latch], at_rest[70 + latch..]);
+            assert_eq!(moved.len(), 240);
+        }
     }
 }

@@ -19,13 +19,14 @@ pub mod package;
 pub mod rainbow;
 pub mod rattle;
 pub mod sample;
+pub mod screen;
 pub mod scripts;
 pub mod trial;
 pub mod tube_sample;
 pub mod watchdog;
 
 /// "Numbers of refusal", with those of document 02: they are 1 to this.
-pub const REFUSALS: usize = 8;
+pub const REFUSALS: usize = 9;
 
 /// A number of refusal or the accepted value.
 pub type Answer<T> = Result<T, u8>;

@@ -101,14 +101,18 @@ mod tests {
         &picture[row * RECORD..][..RECORD]
     }
 
-    /// "store 01 at place 2: row 1 torn at 256; marks rows 1 to 23, not 0". "In P13 row 0 reads the byte but its
-    /// record stays." "Stopping the mend at the row that was hit: a link moves every row after it."
+    /// The marks of every row but row 0.
+    const ALL_BUT_ROW_0: u32 = (1 << ROWS) - 2;
+
+    /// "store 01 at place 2: row 1 torn at 256", and the marks of rows 1 to 24, not 0: 02, ticket 5, has P13 "gain a row".
+    /// "In P13 row 0 reads the byte but its record stays." "Stopping the mend at the row that was hit: a link moves every
+    /// row after it."
     #[test]
     fn p13_link() {
         let mut view = p13();
         let mut picture = fresh(&view);
         let marks = stored(&mut view, &mut picture, 0xEE002, 0x01);
-        assert_eq!(marks, Ok(0xFF_FFFE));
+        assert_eq!(marks, Ok(ALL_BUT_ROW_0));
         assert_eq!(record(&picture, 1)[..4], [0x01, 0x00, 3, 255]);
         assert_eq!(picture, fresh(&view));
     }
@@ -119,7 +123,7 @@ mod tests {
     fn records_before_the_first_reader_stay() {
         let (mut view, mut picture) = (three_rows(), untrue());
         let marks = stored(&mut view, &mut picture, 0xEE101, 0x45);
-        assert_eq!(marks, Ok(0xFF_FFFE));
+        assert_eq!(marks, Ok(ALL_BUT_ROW_0));
         assert_eq!(picture[..RECORD], untrue()[..RECORD]);
         assert_eq!(picture[RECORD..], fresh(&view)[RECORD..]);
         assert_eq!(record(&picture, 1)[4..8], [0x43, 0x0B, 0x45, 0x0B]);
@@ -192,7 +196,7 @@ mod tests {
         picture[5 * RECORD + 9] ^= 1;
         picture[PICTURE - 1] ^= 1;
         let marks = stored(&mut view, &mut picture, 0xEE000, 0x46);
-        assert_eq!(marks, Ok(1 << 23 | 1 << 5 | 1));
+        assert_eq!(marks, Ok(1 << (ROWS - 1) | 1 << 5 | 1));
         assert_eq!(picture, fresh(&view));
     }
 
@@ -234,7 +238,7 @@ mod tests {
                 .filter(|row| is_marked(marks, *row))
                 .collect::<Vec<_>>()
         };
-        assert_eq!(marked(0xFF_FFFE), (1..ROWS).collect::<Vec<_>>());
+        assert_eq!(marked(0x1FF_FFFE), (1..ROWS).collect::<Vec<_>>());
         assert_eq!(marked(0x8000_0001), [0, 31]);
     }
 }

@@ -1,6 +1,5 @@
-//! A screen that a herd book might show: a list of the morning's milk, with a treated cow on hold. The
-//! lines of its table are in a scrolling region that has moved, so they follow one another in the chain
-//! and not in memory.
+//! A screen that a herd book might show: a list of the morning's milk, with treated cows on hold, in 25 lines. Those
+//! of its table are in a scrolling region that has moved, so they follow one another in the chain and not in memory.
 use crate::chain::PLACES;
 
 const PLAIN: u8 = 0x0E;
@@ -88,6 +87,8 @@ fn lines() -> Vec<Line> {
         REVERSE,
         " F1 NEXT PAGE   F2 PRINT   F3 HOLD OR RELEASE   F4 LEAVE",
     ));
+    // Row 24, which shows only while the table scrolls.
+    all.push(line(NORMAL, PLAIN, " PAGE 1 OF 3"));
     all
 }
 

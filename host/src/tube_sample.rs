@@ -1,9 +1,10 @@
-//! What the program `tube` is given: a sample screen and a sample glyph table, which are kept as texts that a
-//! person can read and mend. The head of each text says how it is read.
+//! What the program `tube` is given: two sample screens and a sample glyph table, which are kept as texts that a
+//! person can read and mend. The head of a text says how it is read.
 use crate::chain::{capacity, PLACES, ROWS};
 use crate::dots::{address, GLYPHS, SCANS};
 
 const SCREEN: &str = include_str!("../../samples/screen.txt");
+const MILKING: &str = include_str!("../../samples/milking.txt");
 const TABLE: &str = include_str!("../../samples/glyphs.txt");
 
 /// The file, the line, and what was expected there.
@@ -120,8 +121,7 @@ fn run(line: &str) -> Option<Vec<(u8, u8)>> {
     Some(cells.map(|character| (character, attribute)).collect())
 }
 
-fn rows(text: &str) -> Read<Vec<Row>> {
-    let file = "screen.txt";
+fn rows(file: &str, text: &str) -> Read<Vec<Row>> {
     let mut rows: Vec<Row> = Vec::new();
     for (at, line) in lines(text) {
         if line.starts_with(' ') {
@@ -157,10 +157,10 @@ fn rows(text: &str) -> Read<Vec<Row>> {
     }
 }
 
-/// The screen memory and the attribute memory of a text. The rows lie one after another, and the last goes
+/// The screen memory and the attribute memory of a file's text. The rows lie one after another, and the last goes
 /// on at place 0.
-pub fn memories(text: &str) -> Read<Vec<u8>> {
-    let rows = rows(text)?;
+pub fn memories(file: &str, text: &str) -> Read<Vec<u8>> {
+    let rows = rows(file, text)?;
     let (mut screen, mut attribute) = (Vec::new(), Vec::new());
     for (number, row) in rows.iter().enumerate() {
         screen.extend(row.cells.iter().map(|cell| cell.0));
@@ -177,9 +177,14 @@ pub fn memories(text: &str) -> Read<Vec<u8>> {
     Ok([screen, attribute].concat())
 }
 
-/// The screen memory, the attribute memory and the glyph table, one after the other.
+/// The screen memory, the attribute memory and the glyph table, one after the other, of a herd book's page.
 pub fn herd_book() -> Read<Vec<u8>> {
-    Ok([memories(SCREEN)?, glyph_table(TABLE)?].concat())
+    Ok([memories("screen.txt", SCREEN)?, glyph_table(TABLE)?].concat())
+}
+
+/// The same of a page whose table scrolls.
+pub fn milking() -> Read<Vec<u8>> {
+    Ok([memories("milking.txt", MILKING)?, glyph_table(TABLE)?].concat())
 }
 
 #[cfg(test)]
@@ -204,6 +209,19 @@ mod tests {
         assert!(records().all(|record| record[COUNT_AT] <= 80));
     }
 
+    /// The heading stands still, the cows scroll down to the last row, and all is in the left 40 columns.
+    #[test]
+    fn the_milking_scrolls_down_to_the_last_row() {
+        let bytes = milking().unwrap();
+        let drawn = draw(&bytes[..PLACES], &bytes[PLACES..2 * PLACES], 80);
+        let picture = drawn.ok().unwrap().picture;
+        for (row, record) in picture.chunks(RECORD).enumerate() {
+            let kind = record[KIND_AT];
+            assert_eq!(kind & 4 != 0, row >= 7, "row {row}");
+            assert!(record[COUNT_AT] as usize <= capacity(40, kind));
+        }
+    }
+
     #[test]
     fn every_printable_code_is_drawn() {
         let table = glyph_table(TABLE).unwrap();
@@ -223,11 +241,11 @@ mod tests {
             "samples/glyphs.txt, line 4: expected eight dots, # or ., of scan 2"
         );
         assert!(glyph("\n41 B\n").contains("line 2: expected a code"));
-        let screen = |text| memories(text).unwrap_err();
+        let screen = |text| memories("screen.txt", text).unwrap_err();
         assert!(screen("wide\n").contains("line 1: expected normal, which"));
         assert!(screen("normal\n\n  dim|A|\n").contains("line 3: expected attributes"));
         assert!(screen("normal\n  plain|\\FF|\n").contains("line 2: expected attributes"));
-        assert!(screen("normal\n").contains("line 1: expected 24 rows"));
+        assert!(screen("normal\n").contains("line 1: expected 25 rows"));
         let long = format!("normal\ntop\n  plain|{}|\n", "A".repeat(41));
         assert!(screen(&long).contains("line 3: expected at most 40 cells"));
     }

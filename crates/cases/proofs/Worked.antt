@@ -23,6 +23,8 @@ use Rattle.dots.specs.Attributes.{shade}
 use Rattle.dots.specs.Cell.{glyphDots, twice, cellDots}
 use Rattle.scan_line.specs.Line.{pairDots, rowDots, showsNothing, lineOf}
 use Rattle.scan_line.specs.Call.{lengthsLine, onTube}
+use Rattle.whole_screen.specs.Screen.{runStart, runEnd, atRest, screenLines}
+use Rattle.whole_screen.specs.Call.{lengthsList, kindsIn}
 use Rattle.ascii.specs.Ascii.{ascii}
 use Rattle.ascii.specs.Numbers.{decimal, reached, digit, hex}
 use Rattle.listing.specs.Listing.{heading, counted, rowAndStart, line, lineOf as rowLine, linesTo, refusedText, textOf, drawing, listRows}
@@ -33,8 +35,9 @@ use Rattle.cases.specs.Ports.{shadow, nvm, written, writtenAll, none, re
 use Rattle.cases.specs.Watchdog.{ticked, watching, inReset, watch, told, readBy8088, readOfShadow, writtenToShadow, writtenToPort}
 use Rattle.cases.specs.Mends.{markedOf, markedFrom, marked, storedAt, mendedRow}
 use Rattle.cases.specs.Dots.{showing, rowOfKind, litDots, everyByte, ofCharacter, numbered, digits80, digits132, bits, litByBits, underDigits, printed}
+use Rattle.cases.specs.Scroll.{standing, scrolling, linesAt, ofKinds, kindsAt, refusedAt}
 use Rattle.cases.specs.Lister.{listedOf}
-use Rattle.cases.specs.Table.{screens, wildLinks, stores, held, writes, ticks, resets, mends, dots, prints, table}
+use Rattle.cases.specs.Table.{screens, wildLinks, stores, held, writes, ticks, resets, mends, dots, scrolls, prints, table}
 use Rattle.cases.specs.Worked.{Worked}
 
 abbrev gives : List Case → List (List Said)
@@ -79,10 +82,14 @@ shown-out : gives dots ≡ says dots
 unfolding capacity inOrder recordIn glyphByte scanAddresses scanAddress glyphScan shade glyphDots twice cellDots pairDots rowDots showsNothing lineOf lengthsLine onTube showing rowOfKind litDots everyByte ofCharacter numbered digits80 digits132 bits litByBits underDigits printed dots
 shown-out = refl
 
+scrolled-out : gives scrolls ≡ says scrolls
+unfolding firstThat inOrder recordIn runStart runEnd atRest screenLines lengthsList kindsIn standing scrolling linesAt ofKinds kindsAt refusedAt scrolls
+scrolled-out = refl
+
 printed-out : gives prints ≡ says prints
 unfolding byteAt capacity firstFF terminator link rowFrom next rowAt reads readsTo cellPairs fillPairs recordOf inOrder lengthsPicture heading counted rowAndStart line rowLine linesTo refusedText textOf drawing listRows ascii decimal reached digit hex listedOf prints
 printed-out = refl
 
 pub worked : Worked
 unfolding table
-worked = simp map-append (rw (drawn, named-out, stored, held-out, written-out, ticked-out, reset-out, mended-out, shown-out, printed-out))
+worked = simp map-append (rw (drawn, named-out, stored, held-out, written-out, ticked-out, reset-out, mended-out, shown-out, scrolled-out, printed-out))

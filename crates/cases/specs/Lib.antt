@@ -5,6 +5,7 @@ pub mod Ports
 pub mod Watchdog
 pub mod Mends
 pub mod Dots
+pub mod Scroll
 pub mod Lister
 pub mod Table
 pub mod Worked

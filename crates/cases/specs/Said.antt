@@ -20,6 +20,8 @@ pub data Said : Type 0 where
   Reads : ℕ → Said
   Names : (wild : Bool) → (row : ℕ) → Said
   Marked : (row : ℕ) → Said
+  Line : (line row scan : ℕ) → Said
+  Kind : ℕ → Said
   Dots : (lit : List ℕ) → Said
   Addresses : List ℕ → Said
   GlyphScan : ℕ → Said

@@ -1,4 +1,5 @@
--- P1 to P6: screens drawn at power-up, 80 columns, told by the bytes of the picture; and the first wild row of a screen.
+-- P1 to P6: screens drawn at power-up, 80 columns, told by the bytes of the picture; and the first wild row of a
+-- screen.
 use Prim.Native.Nat.{ℕ, zero, suc, _+_, _-_, _*_}
 use mathlib.Core.List.{List, [], _∷_, _++_}
 use lib.ListN.{length, getD, drop, replicate}

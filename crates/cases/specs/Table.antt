@@ -1,4 +1,4 @@
--- Document 01, "Screens and ports worked out": the cases marked P. Document 02: those of tickets 1 to 4.
+-- Document 01, "Screens and ports worked out": the cases marked P. Document 02: those of tickets 1 to 5.
 use Prim.Native.Nat.{_-_}
 use mathlib.Core.List.{List, [], _∷_, _++_, map}
 use mathlib.Core.Bool.{true, false}
@@ -8,11 +8,12 @@ use Rattle.machine.specs.Fields.{withHeld, withCount, withReset}
 use Rattle.machine.specs.Power.{powerUp, verticalTick}
 use Rattle.glyphs.specs.Scans.{scanAddresses, scanAddress, glyphScan}
 use Rattle.ascii.specs.Ascii.{ascii}
-use Rattle.cases.specs.Said.{Case, Private, Shared, Screen, Attribute, Byte, Refused, Interlaced, Recalls, Watch, Row, Start, Count, Reads, Names, Dots, Addresses, GlyphScan, Prints}
+use Rattle.cases.specs.Said.{Case, Private, Shared, Screen, Attribute, Byte, Refused, Interlaced, Recalls, Watch, Row, Start, Count, Reads, Names, Line, Kind, Dots, Addresses, GlyphScan, Prints}
 use Rattle.cases.specs.Screens.{alike, drawnAll, startOfRow, countOfRow, named, emptyRows}
 use Rattle.cases.specs.Memories.{running, storedByZ80, storedShort, readByZ80, storedBy8088}
 use Rattle.cases.specs.Ports.{writtenAll, recalls}
 use Rattle.cases.specs.Watchdog.{ticked, watching, inReset, watch, readBy8088, readOfShadow, writtenToShadow, writtenToPort}
+use Rattle.cases.specs.Scroll.{standing, scrolling, linesAt, kindsAt, refusedAt}
 use Rattle.cases.specs.Lister.{listedOf}
 use Rattle.cases.specs.Mends.{marked, mendedRow}
 use Rattle.cases.specs.Dots.{litDots, everyByte, numbered, digits80, digits132, litByBits, underDigits, printed}
@@ -20,16 +21,16 @@ use Rattle.cases.specs.Dots.{litDots, everyByte, numbered, digits80, dig
 -- P1 to P6
 unfoldable pub screens : List Case
 screens =
-    -- P1: screen all FF, attribute all 00, 80 columns: row 0: start 0, kind 3, count 0; rows 1 to 23: start 4095, kind
-    -- 0, count 0; 72 read
+    -- P1: screen all FF, attribute all 00, 80 columns: row 0: start 0, kind 3, count 0; rows 1 to 24: start 4095, kind
+    -- 0, count 0; 75 read. 02, ticket 5: "P1, P2 and P13 gain a row, and P1 reads 75"
     record {
       gives = drawnAll (replicate screenBytes 0xFF) (replicate attributeBytes 0x00);
-      says = Reads 72 ∷ Row 0 0 3 0 ∷ alike 1 23 4095 0 0;
+      says = Reads 75 ∷ Row 0 0 3 0 ∷ alike 1 24 4095 0 0;
     }
     -- P2: both all 00, 80 columns: row 0 torn, others dark; 81 read
     ∷ record {
       gives = drawnAll (replicate screenBytes 0x00) (replicate attributeBytes 0x00);
-      says = Reads 81 ∷ Row 0 0 3 255 ∷ alike 1 23 0 3 254;
+      says = Reads 81 ∷ Row 0 0 3 255 ∷ alike 1 24 0 3 254;
     }
     -- P3: FF 50 01: next start 336
     ∷ record { gives = startOfRow 1 (0xFF ∷ 0x50 ∷ 0x01 ∷ []) 3; says = Start 336 ∷ [] }
@@ -67,8 +68,8 @@ wildLinks =
     -- row 1 is wild and leads to itself, so that every later row is the same
     ∷ record { gives = named (emptyRows 0 1 (0xFF ∷ 3 ∷ 0x20 ∷ [])) 3; says = Names true 1 ∷ [] }
     -- the last row alone; a row more than there are
-    ∷ record { gives = named (emptyRows 0 23 (0xFF ∷ 0 ∷ 0x40 ∷ [])) 3; says = Names true 23 ∷ [] }
-    ∷ record { gives = named (emptyRows 0 24 (0xFF ∷ 0 ∷ 0x40 ∷ [])) 3; says = Names false 0 ∷ [] }
+    ∷ record { gives = named (emptyRows 0 24 (0xFF ∷ 0 ∷ 0x40 ∷ [])) 3; says = Names true 24 ∷ [] }
+    ∷ record { gives = named (emptyRows 0 25 (0xFF ∷ 0 ∷ 0x40 ∷ [])) 3; says = Names false 0 ∷ [] }
     ∷ []
 
 -- P7, P8
@@ -196,8 +197,8 @@ resets =
 -- P13
 unfoldable pub mends : List Case
 mends =
-    -- P13: screen FF then 00s, attribute all 03; store 01 at place 2: row 1 torn at 256; marks rows 1 to 23, not 0
-    record { gives = mendedRow 1 (0xFF ∷ []) 0x03 2 0x01; says = Row 1 256 3 255 ∷ marked 1 23 } ∷ []
+    -- P13: screen FF then 00s, attribute all 03; store 01 at place 2: row 1 torn at 256; marks rows 1 to 24, not 0
+    record { gives = mendedRow 1 (0xFF ∷ []) 0x03 2 0x01; says = Row 1 256 3 255 ∷ marked 1 24 } ∷ []
 
 -- P10, P11, and 003, section 2.1.6.7
 unfoldable pub dots : List Case
@@ -254,6 +255,80 @@ dots =
     }
     ∷ []
 
+-- 02, ticket 5: "row then scan for each line from the top"
+unfoldable pub scrolls : List Case
+scrolls =
+    -- "With no such run, or with L 0, rows 0 to 23 show in full."
+    record {
+      gives = linesAt 7 (standing 25 []) (0 ∷ 9 ∷ 10 ∷ 239 ∷ []);
+      says = Line 0 0 1 ∷ Line 9 0 10 ∷ Line 10 1 1 ∷ Line 239 23 10 ∷ [];
+    }
+    ∷ record {
+      gives = linesAt 0 (standing 7 (scrolling 3 (standing 15 []))) (70 ∷ 99 ∷ 239 ∷ []);
+      says = Line 70 7 1 ∷ Line 99 9 10 ∷ Line 239 23 10 ∷ [];
+    }
+    -- 003: "when the scroll latch is non-zero, for example 5, the first line of the scrolling region starts with scan
+    -- row 5", our scan 6; "the last line of the scrolling region terminates at scan row 4", our scan 5
+    ∷ record {
+      gives = linesAt 5 (standing 7 (scrolling 3 (standing 15 []))) (69 ∷ 70 ∷ 74 ∷ 75 ∷ 84 ∷ 85 ∷ 89 ∷ 90 ∷ 239 ∷ []);
+      says =
+          Line 69 6 10
+          ∷ Line 70 7 6
+          ∷ Line 74 7 10
+          ∷ Line 75 8 1
+          ∷ Line 84 8 10
+          ∷ Line 85 9 1
+          ∷ Line 89 9 5
+          ∷ Line 90 10 1
+          ∷ Line 239 24 10
+          ∷ [];
+    }
+    -- the same run at L 1 and at L 9, and L read modulo 16
+    ∷ record {
+      gives = linesAt 1 (standing 7 (scrolling 3 (standing 15 []))) (70 ∷ 78 ∷ 79 ∷ 88 ∷ 89 ∷ 90 ∷ []);
+      says = Line 70 7 2 ∷ Line 78 7 10 ∷ Line 79 8 1 ∷ Line 88 8 10 ∷ Line 89 9 1 ∷ Line 90 10 1 ∷ [];
+    }
+    ∷ record {
+      gives = linesAt 9 (standing 7 (scrolling 3 (standing 15 []))) (70 ∷ 71 ∷ 80 ∷ 81 ∷ 89 ∷ 90 ∷ []);
+      says = Line 70 7 10 ∷ Line 71 8 1 ∷ Line 80 8 10 ∷ Line 81 9 1 ∷ Line 89 9 9 ∷ Line 90 10 1 ∷ [];
+    }
+    ∷ record {
+      gives = linesAt 0xF9 (standing 7 (scrolling 3 (standing 15 []))) (70 ∷ 89 ∷ []);
+      says = Line 70 7 10 ∷ Line 89 9 9 ∷ [];
+    }
+    -- "a run of one row shows none"
+    ∷ record {
+      gives = linesAt 4 (standing 3 (scrolling 1 (standing 21 []))) (29 ∷ 30 ∷ 239 ∷ []);
+      says = Line 29 2 10 ∷ Line 30 4 1 ∷ Line 239 24 10 ∷ [];
+    }
+    -- "the first unbroken run": the second shows in full
+    ∷ record {
+      gives = linesAt 4 (standing 3 (scrolling 2 (standing 1 (scrolling 2 (standing 17 []))))) (30 ∷ 39 ∷ 40 ∷ 50 ∷ 69 ∷ []);
+      says = Line 30 3 5 ∷ Line 39 4 4 ∷ Line 40 5 1 ∷ Line 50 6 1 ∷ Line 69 7 10 ∷ [];
+    }
+    -- a run that reaches row 24, and one of row 24 alone; rows 1 to 24
+    ∷ record {
+      gives = linesAt 6 (standing 20 (scrolling 5 [])) (199 ∷ 200 ∷ 233 ∷ 234 ∷ 239 ∷ []);
+      says = Line 199 19 10 ∷ Line 200 20 7 ∷ Line 233 23 10 ∷ Line 234 24 1 ∷ Line 239 24 6 ∷ [];
+    }
+    ∷ record { gives = linesAt 6 (standing 24 (scrolling 1 [])) (239 ∷ []); says = Line 239 23 10 ∷ [] }
+    ∷ record {
+      gives = linesAt 2 (standing 1 (scrolling 24 [])) (9 ∷ 10 ∷ 239 ∷ []);
+      says = Line 9 0 10 ∷ Line 10 1 3 ∷ Line 239 24 2 ∷ [];
+    }
+    -- kinds are taken modulo 8 from a picture, whatever bytes it holds
+    ∷ record {
+      gives = kindsAt (0xF3 ∷ 0xFC ∷ standing 22 (0x0F ∷ [])) (0 ∷ 1 ∷ 2 ∷ 24 ∷ []);
+      says = Kind 3 ∷ Kind 4 ∷ Kind 3 ∷ Kind 7 ∷ [];
+    }
+    -- "9, a whole screen asked for with L over 9", with a run and without; 1 wins
+    ∷ record { gives = refusedAt 9 (standing 25 []) 480; says = Refused 0 ∷ [] }
+    ∷ record { gives = refusedAt 10 (standing 7 (scrolling 3 (standing 15 []))) 480; says = Refused 9 ∷ [] }
+    ∷ record { gives = refusedAt 15 (standing 25 []) 480; says = Refused 9 ∷ [] }
+    ∷ record { gives = refusedAt 10 (standing 24 []) 480; says = Refused 1 ∷ [] }
+    ∷ record { gives = refusedAt 10 (standing 25 []) 481; says = Refused 1 ∷ [] }
+    ∷ []
+
 -- the row lister, printed whole
 unfoldable pub prints : List Case
 prints =
@@ -274,4 +349,4 @@ prints =
     ∷ []
 
 unfoldable pub table : List Case
-table = screens ++ wildLinks ++ stores ++ held ++ writes ++ ticks ++ resets ++ mends ++ dots ++ prints
+table = screens ++ wildLinks ++ stores ++ held ++ writes ++ ticks ++ resets ++ mends ++ dots ++ scrolls ++ prints

@@ -92,9 +92,13 @@ next c (Whole head cells) = rowFrom c (link (c .screen) (c .attribute) (head .st
 next c (Torn head) = Dark
 next c Dark = Dark
 
--- "There are always 24 rows. A chain that loops shows rows again."
+-- 02, ticket 5: "The chain is now walked for 25 rows". 01: "A chain that loops shows rows again."
 abbrev pub rows : ℕ
-rows = 24
+rows = 25
+
+-- 02, ticket 5: "rows 0 to 23 show in full", where nothing scrolls: the rows at rest
+abbrev pub rowsAtRest : ℕ
+rowsAtRest = 24
 
 unfoldable pub rowAt : Chain → ℕ → Row
 rowAt c zero = rowFrom c first

@@ -40,12 +40,12 @@ attributeRead c Dark = []
 abbrev pub ReadsAsCounted : Type 0
 ReadsAsCounted = (c : Chain) (row : Row) → length (screenRead c row) ≡ reads c row
 
--- "at most 3,240 at 132 columns and 1,992 at 80"
+-- "at most", at 132 columns and at 80; 02, ticket 5: "the read bounds are 3,375 and 2,075"
 abbrev pub readsAt132 : ℕ
-readsAt132 = 3240
+readsAt132 = 3375
 
 abbrev pub readsAt80 : ℕ
-readsAt80 = 1992
+readsAt80 = 2075
 
 abbrev pub ReadsAtMost : Type 0
 ReadsAtMost =

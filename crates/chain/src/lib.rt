@@ -9,7 +9,9 @@ ghost use Rattle.chain.specs.Chain.{places, byteAt, wide, capacity, firs
 ghost use Rattle.chain.specs.Wild.{wildLink};
 
 // There are always so many rows.
-pub const ROWS: usize = 24;
+pub const ROWS: usize = 25;
+// The first of them, which show where nothing scrolls.
+pub const ROWS_AT_REST: usize = 24;
 // The byte after a row's last cell.
 pub const TERMINATOR: u8 = 0xFF;
 // The one kind that is not wide, in bits 1 and 0.

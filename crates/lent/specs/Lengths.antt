@@ -1,4 +1,5 @@
--- Document 01, "Lent memory": the list of buffers and their bytes.
+-- Document 01, "Lent memory": the list of buffers and their bytes. Document 02, ticket 5, has another length for the
+-- picture, and a buffer more.
 use Prim.Native.Nat.{ℕ}
 
 abbrev pub sharedBytes : ℕ
@@ -22,8 +23,13 @@ nvmBytes = 256
 abbrev pub shadowBytes : ℕ
 shadowBytes = 256
 
+-- 02, ticket 5: "the picture has 6,700 bytes"
 abbrev pub pictureBytes : ℕ
-pictureBytes = 6432
+pictureBytes = 6700
 
 abbrev pub lineBytes : ℕ
 lineBytes = 1188
+
+-- 02, ticket 5: "a lent list of 480 bytes"
+abbrev pub listBytes : ℕ
+listBytes = 480

@@ -28,7 +28,8 @@ portRefused = 3
 abbrev pub codeRefused : ℕ
 codeRefused = 4
 
--- a row over 23, a scan outside 1 to 10, a shadow place over 255
+-- a row over 24 (02, ticket 5: "The row limit in 01's number 5 becomes 24"), a scan outside 1 to 10, a shadow place
+-- over 255
 abbrev pub placeRefused : ℕ
 placeRefused = 5
 
@@ -44,10 +45,14 @@ z80HeldRefused = 7
 abbrev pub inResetRefused : ℕ
 inResetRefused = 8
 
+-- 02, ticket 5: "9, a whole screen asked for with L over 9"
+abbrev pub latchRefused : ℕ
+latchRefused = 9
+
 -- the numbers in the order in which they win. 01: "The lowest number wins." But 02, ticket 2, has 7 "after 1", and
--- ticket 3 has 8 "after 1, ahead of 2 to 6". No call can be refused by both 7 and 8
+-- ticket 3 has 8 "after 1, ahead of 2 to 6", ticket 5 has 9 "after 5 and 6". No call can be refused by both 7 and 8
 abbrev pub order : List ℕ
-order = 1 ∷ 7 ∷ 8 ∷ 2 ∷ 3 ∷ 4 ∷ 5 ∷ 6 ∷ []
+order = 1 ∷ 7 ∷ 8 ∷ 2 ∷ 3 ∷ 4 ∷ 5 ∷ 6 ∷ 9 ∷ []
 
 -- a number by which a call can be refused, with whether it is so
 abbrev pub Reason : Type 0

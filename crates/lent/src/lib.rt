@@ -22,9 +22,11 @@ pub const NVM_BYTES: usize = 256;
 
 pub const SHADOW_BYTES: usize = 256;
 
-pub const PICTURE_BYTES: usize = 6432;
+pub const PICTURE_BYTES: usize = 6700;
 
 pub const LINE_BYTES: usize = 1188;
+
+pub const LIST_BYTES: usize = 480;
 
 // The refusal of a call that is accepted.
 pub const ACCEPTED: u8 = 0;
@@ -36,7 +38,7 @@ pub const ADDRESS: u8 = 2;
 pub const PORT: u8 = 3;
 // The code is not in that port's list.
 pub const CODE: u8 = 4;
-// A row over 23, a scan outside 1 to 10, a shadow place over 255.
+// A row over 24, a scan outside 1 to 10, a shadow place over 255.
 pub const PLACE: u8 = 5;
 // Bits 6 and 7 of 0A both rise in one write.
 pub const EDGES: u8 = 6;
@@ -44,6 +46,8 @@ pub const EDGES: u8 = 6;
 pub const Z80_HELD: u8 = 7;
 // The 8088 is in reset.
 pub const IN_RESET: u8 = 8;
+// A whole screen is asked for with a scroll latch over 9.
+pub const LATCH: u8 = 9;
 
 // The number where something holds, else 0.
 pub fn number_if(holds: bool, number: u8) -> u8
@@ -53,7 +57,7 @@ pub fn number_if(holds: bool, number: u8) -> u8
 }
 
 // By what a call is refused. A wrong length wins; then `stopped`, 7 or 8, which says that the call's processor is held
-// or in reset; then `own`, the lowest number of 2 to 6 that holds. The last two are 0 where nothing holds.
+// or in reset; then `own`, the first of 2 to 6 and 9 that holds. The last two are 0 where nothing holds.
 pub fn refusal(lengths: bool, stopped: u8, own: u8) -> u8
     ensures { λ r. ⌜ r ≡ winner lengths stopped own ⌝ }
 {

@@ -17,7 +17,7 @@ pub fn mark(marks: u32, row: usize, changed: bool) -> u32
     marks
 }
 
-// Whether a row is among the marks of a store. It asks for a bit of a number, so no row is refused: one over 23 is
+// Whether a row is among the marks of a store. It asks for a bit of a number, so no row is refused: one over 24 is
 // never marked.
 pub fn is_marked(marks: u32, row: usize) -> bool
     ensures { λ r. ⌜ r ≡ bitSet marks row ⌝ }

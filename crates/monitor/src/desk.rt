@@ -3,7 +3,7 @@ ghost use Prim.Native.Nat.{_≤_};
 ghost use lib.ListN.{length};
 use machine::Machine;
 
-// The memories by number, in the order of document 01's list, each one after the one before it.
+// The memories by number, in the order of document 01's list and then 02's, each one after the one before it.
 pub const SHARED: usize = 0;
 
 pub const PRIVATE: usize = SHARED + 1;
@@ -22,7 +22,9 @@ pub const PICTURE: usize = SHADOW + 1;
 
 pub const LINE: usize = PICTURE + 1;
 
-pub const MEMORIES: usize = LINE + 1;
+pub const LINES: usize = LINE + 1;
+
+pub const MEMORIES: usize = LINES + 1;
 
 // Each memory has one byte more than the list says, so that it can be lent too long.
 pub const SHARED_BYTES: usize = lent::SHARED_BYTES + 1;
@@ -42,6 +44,8 @@ pub const SHADOW_BYTES: usize = lent::SHADOW_BYTES + 1;
 pub const PICTURE_BYTES: usize = lent::PICTURE_BYTES + 1;
 
 pub const LINE_BYTES: usize = lent::LINE_BYTES + 1;
+
+pub const LINES_BYTES: usize = lent::LIST_BYTES + 1;
 
 pub struct Desk {
     pub machine: Machine,
@@ -63,6 +67,7 @@ pub fn power_up() -> Desk {
             lent::SHADOW_BYTES,
             lent::PICTURE_BYTES,
             lent::LINE_BYTES,
+            lent::LIST_BYTES,
         ],
     }
 }

@@ -35,7 +35,9 @@ pub const MARKED: usize = DRAW + 1;
 
 pub const LINE: usize = MARKED + 1;
 
-pub const GLYPH: usize = LINE + 1;
+pub const LINES: usize = LINE + 1;
+
+pub const GLYPH: usize = LINES + 1;
 
 pub const DOTS: usize = GLYPH + 1;
 
@@ -85,6 +87,7 @@ const FORM_TEXTS: [u8; FORMS * commands::FORM_BYTES] = *b"store HHHHHHHH HH     
     draw                            \
     marked HHHHHHHH DDDDD           \
     line DDDDD DDDDD                \
+    lines                           \
     glyph HH                        \
     dots                            \
     scroll                          \
@@ -112,7 +115,8 @@ const NAMES: [u8; desk::MEMORIES * commands::NAME_BYTES] = *b"shared          \
     nvm             \
     shadow          \
     picture         \
-    line            ";
+    line            \
+    lines           ";
 
 // The form that a line has, with its numbers. One that is too long has none.
 pub fn parse(text: &[u8]) -> Command {
@@ -137,7 +141,7 @@ pub fn help() {
     }
     say::line(
         b"H is a hexadecimal digit, D a decimal one, and fewer will do; NAME is one of shared private \
-          screen attribute glyphs nvm shadow picture line",
+          screen attribute glyphs nvm shadow picture line lines",
     );
 }
 

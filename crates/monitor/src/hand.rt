@@ -74,6 +74,7 @@ pub fn named(
     shadow: &mut [u8; desk::SHADOW_BYTES],
     picture: &mut [u8; desk::PICTURE_BYTES],
     line: &mut [u8; desk::LINE_BYTES],
+    lines: &mut [u8; desk::LINES_BYTES],
 ) -> Desk {
     let name = command.first;
     match name {
@@ -85,7 +86,8 @@ pub fn named(
         desk::NVM => to_memory(desk, command, nvm),
         desk::SHADOW => to_memory(desk, command, shadow),
         desk::PICTURE => to_memory(desk, command, picture),
-        _ => to_memory(desk, command, line),
+        desk::LINE => to_memory(desk, command, line),
+        _ => to_memory(desk, command, lines),
     }
 }
 
@@ -100,6 +102,7 @@ pub fn sums(
     shadow: &[u8; desk::SHADOW_BYTES],
     picture: &[u8; desk::PICTURE_BYTES],
     line: &[u8; desk::LINE_BYTES],
+    lines: &[u8; desk::LINES_BYTES],
 ) {
     strewn::sum(b"sums: shared ", shared);
     strewn::sum(b" private ", private);
@@ -110,6 +113,7 @@ pub fn sums(
     strewn::sum(b" shadow ", shadow);
     strewn::sum(b" picture ", picture);
     strewn::sum(b" line ", line);
+    strewn::sum(b" lines ", lines);
     say::text(b"\n");
 }
 

@@ -5,12 +5,14 @@ mod desk;
 mod forms;
 mod hand;
 mod input;
+mod lines;
 mod rows;
 mod say;
 mod scans;
 mod strewn;
 
 use desk::Desk;
+use input::Source;
 
 // Takes lines to the end of the input. A proved loop has to end, so it counts down from a number that no run uses
 // up.
@@ -24,6 +26,7 @@ fn main() {
     let mut shadow = [0; desk::SHADOW_BYTES];
     let mut picture = [0; desk::PICTURE_BYTES];
     let mut line = [0; desk::LINE_BYTES];
+    let mut lines = [0; desk::LINES_BYTES];
     let mut desk = desk::power_up();
     let mut source = input::first();
     let mut turns = u64::MAX;
@@ -35,7 +38,8 @@ fn main() {
         }
         desk = turn(
             desk,
-            input::line(source, &text),
+            source,
+            &text,
             &mut shared,
             &mut private,
             &mut screen,
@@ -45,14 +49,16 @@ fn main() {
             &mut shadow,
             &mut picture,
             &mut line,
+            &mut lines,
         );
         turns -= 1;
     }
 }
 
-// Obeys one line.
+// Obeys the line that was read last.
 fn turn(
     desk: Desk,
+    source: Source,
     text: &[u8],
     shared: &mut [u8; desk::SHARED_BYTES],
     private: &mut [u8; desk::PRIVATE_BYTES],
@@ -63,7 +69,9 @@ fn turn(
     shadow: &mut [u8; desk::SHADOW_BYTES],
     picture: &mut [u8; desk::PICTURE_BYTES],
     line: &mut [u8; desk::LINE_BYTES],
+    lines: &mut [u8; desk::LINES_BYTES],
 ) -> Desk {
+    let text = input::line(source, text);
     let command = forms::parse(text);
     let form = command.form;
     match form {
@@ -73,9 +81,16 @@ fn turn(
         forms::Z80_STORE..=forms::Z80_READ => calls::by_z80(desk, command, private, shared),
         forms::PORT..=forms::WATCH => return calls::to_machine(desk, command, shadow, nvm),
         forms::SHADOW_WRITE..=forms::SHADOW_READ => calls::to_shadow(desk, command, shadow),
-        forms::DRAW..=forms::SCROLL => {
-            scans::show(desk, command, screen, attribute, picture, glyphs, line)
-        }
+        forms::DRAW..=forms::SCROLL => scans::show(
+            desk,
+            command,
+            screen,
+            attribute,
+            picture,
+            glyphs,
+            line,
+            lines,
+        ),
         forms::SUMS => hand::sums(
             shared,
             private,
@@ -86,6 +101,7 @@ fn turn(
             shadow,
             picture,
             line,
+            lines,
         ),
         forms::LEND..=forms::STREW => {
             return hand::named(
@@ -100,6 +116,7 @@ fn turn(
                 shadow,
                 picture,
                 line,
+                lines,
             );
         }
         _ => return hand::obey(desk, command, text, screen, attribute, picture),

@@ -71,6 +71,7 @@ pub fn because(refusal: u8) {
         lent::EDGES => line(b": bits 6 and 7 both rise"),
         lent::Z80_HELD => line(b": the Z80 is held in reset"),
         lent::IN_RESET => line(b": the 8088 is in reset"),
+        lent::LATCH => line(b": the scroll latch is over 9"),
         _ => line(b": a refusal that the monitor does not know"),
     }
 }

@@ -3,6 +3,7 @@ use crate::calls;
 use crate::desk;
 use crate::desk::Desk;
 use crate::forms;
+use crate::lines;
 use crate::rows;
 use crate::say;
 use commands::Command;
@@ -123,12 +124,14 @@ pub fn show(
     picture: &mut [u8; desk::PICTURE_BYTES],
     table: &[u8; desk::GLYPHS_BYTES],
     line: &mut [u8; desk::LINE_BYTES],
+    lines: &mut [u8; desk::LINES_BYTES],
 ) {
     let form = command.form;
     match form {
         forms::DRAW => draw_picture(desk, screen, attribute, picture),
         forms::MARKED => is_marked(command),
         forms::LINE => draw_line(desk, command, picture, table, line),
+        forms::LINES => lines::list(desk, picture, lines),
         forms::GLYPH => part(desk, command, table),
         forms::DOTS => count(desk),
         _ => scroll(desk),

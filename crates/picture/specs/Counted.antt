@@ -6,7 +6,7 @@ use Rattle.machine.specs.declared.Machine.{Machine}
 use Rattle.chain.specs.Reading.{readsAt132, readsAt80}
 use Rattle.picture.specs.Draw.{draw}
 
--- "at most 3,240 at 132 columns and 1,992 at 80"
+-- "at most", at 132 columns and at 80; 02, ticket 5: "the read bounds are 3,375 and 2,075"
 abbrev pub CountAtMost : Type 0
 CountAtMost =
     (m : Machine) (screen attribute picture : List ℕ)

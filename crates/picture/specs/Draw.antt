@@ -50,8 +50,8 @@ acceptedAnswer reads first =
 abbrev pub chainOf : Machine → List ℕ → List ℕ → Chain
 chainOf m screen attribute = chain (columns m) screen attribute
 
--- "The drawing call reports the bytes of screen memory that the walk reads"; 02, ticket 1: "each drawing should name the
--- first such row, or none"
+-- "The drawing call reports the bytes of screen memory that the walk reads"; 02, ticket 1: "each drawing should name
+-- the first such row, or none"
 abbrev pub answerOf : Chain → Drawn
 answerOf c = acceptedAnswer (walkReads c) (firstWild c)
 

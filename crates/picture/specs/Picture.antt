@@ -1,4 +1,4 @@
--- Document 01, "The picture": "24 row records".
+-- Document 01, "The picture": row records, by 02, ticket 5, as many as the chain has rows.
 use Prim.Native.Nat.{ℕ, zero, suc, _*_}
 use mathlib.Core.List.{List, [], _++_}
 use lib.ListN.{take, drop}

@@ -1,4 +1,5 @@
--- Document 01, "The picture" and "Lent memory": the records and the picture have the sizes that are said of them.
+-- Document 01, "The picture" and "Lent memory", and document 02, ticket 5: the records and the picture have the sizes
+-- that are said of them.
 use Prim.Native.Nat.{ℕ, _≤_}
 use mathlib.Core.Path.{_≡_}
 use lib.ListN.{length}
@@ -11,6 +12,6 @@ use Rattle.picture.specs.Picture.{pictureOf}
 abbrev pub RecordsSized : Type 0
 RecordsSized = (c : Chain) (row : ℕ) → c .columns ≤ recordPairs → length (recordOf c (rowAt c row)) ≡ recordBytes
 
--- "picture 6,432"
+-- 02, ticket 5: "the picture has 6,700 bytes"
 abbrev pub PictureSized : Type 0
 PictureSized = (c : Chain) → c .columns ≤ recordPairs → length (pictureOf c) ≡ pictureBytes

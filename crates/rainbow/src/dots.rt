@@ -1,7 +1,8 @@
-// The glyph table and the scan line.
+// The glyph table, the scan line and the list of the whole screen.
 ghost use mathlib.Core.Path.{_≡_};
 ghost use Rattle.scan_line.specs.Line.{dotsOfLine};
 ghost use Rattle.scan_line.specs.Call.{drawnLine, drawLine};
+ghost use Rattle.whole_screen.specs.Call.{listed, listLines};
 ghost use Rattle.rainbow.specs.Part.{partPlace};
 use machine::Machine;
 
@@ -57,4 +58,13 @@ pub extern "C" fn rainbow_dots_of_line(machine: Machine) -> usize
     ensures { λ r. ⌜ r ≡ dotsOfLine machine ⌝ }
 {
     scan_line::dots_of_line(machine)
+}
+
+// Lists the lines of the whole screen: for each the row and the scan that it shows.
+#[no_mangle]
+pub extern "C" fn rainbow_list_lines(machine: Machine, picture: &[u8], list: &mut [u8]) -> u8
+    ensures { λ r. ⌜ listed r (now (list .exit))
+        ≡ listLines machine (now (picture .entry)) (now (list .entry)) ⌝ }
+{
+    whole_screen::list_lines(machine, picture, list)
 }

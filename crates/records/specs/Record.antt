@@ -5,7 +5,7 @@ use mathlib.Core.List.{List, [], _∷_, _++_}
 use Rattle.chain.specs.Chain.{Chain, Row, Whole, Torn, Dark, byteAt, capacity, rowFrom}
 use Rattle.chain.specs.declared.Head.{Head}
 
--- "24 row records of 268 bytes: start (two bytes, high byte first, the house habit), kind 0 to 7, count, then 132 pairs
+-- "row records of 268 bytes: start (two bytes, high byte first, the house habit), kind 0 to 7, count, then 132 pairs
 -- of character and attribute modulo 16."
 abbrev pub recordBytes : ℕ
 recordBytes = 268

@@ -8,18 +8,23 @@ use lib.ListN.{length}
 use borrow.Author.Tests.{not-true}
 use Rattle.lent.specs.Refusals.{accepted, refuses, lengthRefused}
 use Rattle.lent.proofs.Tests.{either}
+use Rattle.machine.specs.Settings.{scrollLatch}
 use Rattle.memories.specs.View8088.{seen8088}
 use Rattle.memories.proofs.Laws.{lent8088, accepted-right}
 use Rattle.chain.proofs.Searching.{neither}
 use Rattle.picture.specs.Picture.{pictureOf}
 use Rattle.picture.specs.Draw.{lengthsPicture, DrawnPicture, chainOf}
+use Rattle.picture.proofs.Laws.{columns-fit}
 use Rattle.mending.specs.Store.{lengthsWithPicture, storeWithPicture}
 use Rattle.mending.specs.True.{TruePicture}
 use Rattle.mending.proofs.Outcome.{lent-with-picture}
 use Rattle.mending.proofs.True.{keeps-true}
-use Rattle.runs.specs.World.{Memory, Shared, Screen, Attribute, Picture, World, Call, Read8088, Store8088, ReadZ80, StoreZ80, ReadShadow, WriteShadow, WritePort, VerticalTick, WatchdogTick, Draw, StoreWithPicture, GlyphPart, DrawLine, after, answer}
+use Rattle.whole_screen.specs.Screen.{screenLines}
+use Rattle.whole_screen.specs.Call.{kindsIn, refusalList, Listed}
+use Rattle.whole_screen.proofs.Fresh.{of-the-chain}
+use Rattle.runs.specs.World.{Memory, Shared, Screen, Attribute, Picture, ScreenList, World, Call, Read8088, Store8088, ReadZ80, StoreZ80, ReadShadow, WriteShadow, WritePort, VerticalTick, WatchdogTick, Draw, StoreWithPicture, GlyphPart, DrawLine, ListLines, after, answer}
 use Rattle.runs.specs.Reach.{AllOf, has, mayChange}
-use Rattle.runs.specs.Kept.{Lent, Own, Another, lentBytes, keptBytes, lending, keeping, leavesPictureBehind, Step, Made, Lending, stepped, inRuns, TheseAreIn, allInRuns, sameColumns, played, playedAll, Kept, KeptByRuns, KeptFromDrawing}
+use Rattle.runs.specs.Kept.{Lent, Own, Another, lentBytes, keptBytes, lending, keeping, leavesPictureBehind, Step, Made, Lending, stepped, inRuns, TheseAreIn, allInRuns, sameColumns, played, playedAll, Kept, KeptByRuns, KeptFromDrawing, ListFromKept}
 use Rattle.runs.proofs.Worlds.{refusedWithPicture, picture-refused}
 use Rattle.runs.proofs.Refused.{changes-nothing}
 use Rattle.runs.proofs.Reach.{stored-apart, changes-only, lengths-stay}
@@ -118,6 +123,7 @@ call-kept VerticalTick w h c k = quiet-kept VerticalTick w refl h c k
 call-kept WatchdogTick w h c k = quiet-kept WatchdogTick w refl h c k
 call-kept (GlyphPart n) w h c k = k
 call-kept (DrawLine r s) w h c k = quiet-kept (DrawLine r s) w refl h c k
+call-kept ListLines w h c k = quiet-kept ListLines w refl h c k
 
 -- a call that was lent other memories and refused leaves the world that is kept
 pub lending-stays : (lent : Memory → Lent) (call : Call) (w : World) → inRuns (Lending lent call) w ≡ true → stepped (Lending lent call) w ≡ w
@@ -180,3 +186,20 @@ kept-from-drawing steps w all accepts =
         go : (b : Bool) → drawable v ≡ b → cond (drawable v) accepted lengthRefused ≡ accepted → v .bytes Picture ≡ fresh v
         go true e g = sym (rw e at k)
         go false e g = let refused : lengthRefused ≡ accepted = rw e at g in absurd (omega arith)
+
+-- a list that is accepted is that of the picture's kinds
+accepted-lines :
+    (w : World) → answer ListLines w .refusal ≡ accepted
+    → after ListLines w .bytes ScreenList ≡ screenLines (kindsIn (w .bytes Picture)) (scrollLatch (w .machine))
+accepted-lines w =
+    let refusal = refusalList (w .machine) (w .bytes Picture) (w .bytes ScreenList) in
+    either
+    (λ (left : Listed). left .refusal ≡ accepted → left .list ≡ screenLines (kindsIn (w .bytes Picture)) (scrollLatch (w .machine)))
+    (refuses refusal) _ _ (λ e h. absurd (true≢false (sym e ∙ ap (λ (n : ℕ). refuses n) h))) (λ e h. refl)
+
+pub list-from-kept : ListFromKept
+list-from-kept steps w all accepts listed =
+    let last = playedAll steps (after Draw w) in
+    let c = chainOf (last .machine) (last .bytes Screen) (last .bytes Attribute) in
+    accepted-lines last listed
+    ∙ rw (kept-from-drawing steps w all accepts) (of-the-chain c (scrollLatch (last .machine)) (columns-fit (last .machine)))

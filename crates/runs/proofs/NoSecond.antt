@@ -35,6 +35,8 @@ use Rattle.glyphs.proofs.refusal.Reads as part-refusal
 use Rattle.scan_line.specs.Call.{drawnLine}
 use Rattle.scan_line.proofs.dots_of_line.Reads as dots-of-line
 use Rattle.scan_line.proofs.draw.Reads as draw-line
+use Rattle.whole_screen.specs.Call.{listed as listedLines}
+use Rattle.whole_screen.proofs.list_lines.Reads as list-lines
 use Rattle.commands.proofs.parse.Reads as parse
 use Rattle.commands.proofs.has_words.Reads as has-words
 use Rattle.commands.proofs.is_meant.Reads as is-meant
@@ -62,6 +64,7 @@ use Rattle.rainbow.proofs.screen.rainbow_is_marked.Reads as c-is-marked
 use Rattle.rainbow.proofs.dots.rainbow_glyph_part.Reads as c-glyph-part
 use Rattle.rainbow.proofs.dots.rainbow_scan_line.Reads as c-scan-line
 use Rattle.rainbow.proofs.dots.rainbow_dots_of_line.Reads as c-dots-of-line
+use Rattle.rainbow.proofs.dots.rainbow_list_lines.Reads as c-list-lines
 use Rattle.runs.specs.Once.{Once, AnswersOnce}
 
 pub no-second : {A : Type 0} {promised one other : A} → one ≡ promised → other ≡ promised → one ≡ other
@@ -131,6 +134,9 @@ part-refusal-once κs a one two = no-second
 
 pub draw-line-once : Once draw-line.Post (λ κs r s. drawnLine r (now (s .1 .1 .1 .1 .1 .0)))
 draw-line-once κs a one two = no-second
+
+pub list-lines-once : Once list-lines.Post (λ κs r s. listedLines r (now (s .1 .1 .0)))
+list-lines-once κs a one two = no-second
 
 -- that they fit a line follows from the first clause
 pub dots-of-line-once : AnswersOnce dots-of-line.Post
@@ -221,3 +227,6 @@ c-scan-line-once κs a one two = no-second
 
 pub c-dots-of-line-once : AnswersOnce c-dots-of-line.Post
 c-dots-of-line-once κs a one two = no-second
+
+pub c-list-lines-once : Once c-list-lines.Post (λ κs r s. listedLines r (now (s .1 .1 .0)))
+c-list-lines-once κs a one two = no-second

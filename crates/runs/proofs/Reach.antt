@@ -1,5 +1,5 @@
 -- What each call may change, that lengths stay, and what each call sees: the statements of specs/Reach.antt.
-use Prim.Native.Nat.{ℕ, _+_}
+use Prim.Native.Nat.{ℕ, _+_, _≤_}
 use mathlib.Core.Path.{_≡_, refl, subst, sym, ap, _∙_}
 use mathlib.Core.List.{List, [], _∷_}
 use mathlib.Core.Bool.{Bool, true, false, not, cond, _&&_, _||_, true≢false}
@@ -8,14 +8,16 @@ use lib.ListN.{length, set, take, drop, length-set}
 use lib.Seq.{take-set-le, drop-set-lt}
 use lib.Dec.{eqb, ltb}
 use borrow.Author.Tests.{ltb-true, ltb-false, eqb-false, ne-eqb}
-use Rattle.lent.specs.Lengths.{shadowBytes, nvmBytes, pictureBytes, lineBytes}
-use Rattle.lent.specs.Refusals.{accepted, refuses, lengthRefused, placeRefused}
-use Rattle.lent.proofs.Tests.{either}
-use Rattle.machine.specs.Settings.{z80Runs}
+use Rattle.lent.specs.Lengths.{shadowBytes, nvmBytes, pictureBytes, lineBytes, listBytes}
+use Rattle.lent.specs.Refusals.{accepted, refuses, lengthRefused, placeRefused, latchRefused}
+use Rattle.lent.proofs.Tests.{either, both-equal}
+use Rattle.lent.proofs.Order.{passed}
+use Rattle.machine.specs.Settings.{scrollLatch, z80Runs}
 use Rattle.machine.specs.Watchdog.{watchTicks, counts, watchdogTick}
 use Rattle.machine.specs.declared.Machine.{Machine}
 use Rattle.memories.specs.View8088.{seen8088}
 use Rattle.memories.specs.ViewZ80.{sharedFrom, isPrivate}
+use Rattle.memories.proofs.Laws.{is-accepted}
 use Rattle.memories.specs.declared.view8088.Seen.{Seen}
 use Rattle.memories.specs.declared.view8088.Seen.the-variants.{Shared as InShared, Screen as InScreen, Attribute as InAttribute, Nowhere}
 use Rattle.shadow.specs.Shadow.{refusalShadow, WrittenShadow}
@@ -29,10 +31,12 @@ use Rattle.picture.proofs.Laws.{lentPicture, columns-fit}
 use Rattle.picture.proofs.Sizes.{picture-sized}
 use Rattle.mending.proofs.Laws.{mended-sized}
 use Rattle.mending.proofs.Outcome.{accepts}
-use Rattle.scan_line.specs.Call.{lengthsLine, onTube, refusalLine, DrawnLine}
+use Rattle.scan_line.specs.Call.{onTube, refusalLine, DrawnLine}
 use Rattle.scan_line.proofs.Laws.{lentLine}
 use Rattle.scan_line.proofs.Line.{line-sized}
-use Rattle.runs.specs.World.{Memory, Shared, Private, Screen, Attribute, Glyphs, Nvm, Shadow, Picture, Line, numberOf, isMemory, World, withMachine, withBytes, Read8088, Store8088, ReadZ80, StoreZ80, ReadShadow, WriteShadow, WritePort, VerticalTick, WatchdogTick, Draw, StoreWithPicture, GlyphPart, DrawLine, after}
+use Rattle.whole_screen.specs.Call.{lengthsList, latchMost, kindsIn, refusalList, Listed}
+use Rattle.whole_screen.proofs.Shown.{always-240}
+use Rattle.runs.specs.World.{Memory, Shared, Private, Screen, Attribute, Glyphs, Nvm, Shadow, Picture, Line, ScreenList, numberOf, isMemory, World, withMachine, withBytes, Read8088, Store8088, ReadZ80, StoreZ80, ReadShadow, WriteShadow, WritePort, VerticalTick, WatchdogTick, Draw, StoreWithPicture, GlyphPart, DrawLine, ListLines, after}
 use Rattle.runs.specs.Reach.{Part, TheMachine, Z80Bit, InReset, Below0800, From0800, AllOf, numberOfPart, has, Same, storedAt, ChangesOnly, LengthsStay}
 use Rattle.runs.proofs.Ports.{port-reset}
 use Rattle.runs.proofs.Worlds.{with-length, storedIn, stored-length, refused8088, store-refused, store-accepted, refusedZ80, z80-refused, z80-private, z80-shared, not-below, mendedIn, refusedWithPicture, picture-refused, picture-accepted}
@@ -136,7 +140,7 @@ port-sized w port code =
           one-of (rises 6 (w .machine .held) code) (w .bytes Shadow) (w .bytes Nvm) (omega (arith, lent)),
         ))
 
--- a drawing, and a line, that is accepted has room of the right length
+-- a drawing, a line and a list that is accepted has room of the right length, and a list a latch of 0 to 9
 accepted-picture :
     (w : World) → refuses (refusalDrawing (w .bytes Screen) (w .bytes Attribute) (w .bytes Picture)) ≡ false
     → length (w .bytes Picture) ≡ pictureBytes
@@ -151,14 +155,19 @@ accepted-picture w = go (lengthsPicture (length (w .bytes Screen)) (length (w .b
 accepted-line :
     (w : World) (row scan : ℕ) → refuses (refusalLine (w .bytes Picture) (w .bytes Glyphs) row scan (w .bytes Line)) ≡ false
     → length (w .bytes Line) ≡ lineBytes
-accepted-line w row scan = go (lengthsLine (length (w .bytes Picture)) (length (w .bytes Glyphs)) (length (w .bytes Line))) refl
-  where
-    go :
-        (right : Bool) → lengthsLine (length (w .bytes Picture)) (length (w .bytes Glyphs)) (length (w .bytes Line)) ≡ right
-        → refuses (cond (not right) lengthRefused (cond (not (onTube row scan)) placeRefused accepted)) ≡ false
-        → length (w .bytes Line) ≡ lineBytes
-    go true e h = lentLine e .1 .1
-    go false e h = absurd (true≢false h)
+accepted-line w row scan e =
+    lentLine (passed _ (not (onTube row scan)) placeRefused (λ is. omega (arith, is)) (is-accepted _ e) .0) .1 .1
+
+accepted-list :
+    (w : World) → refuses (refusalList (w .machine) (w .bytes Picture) (w .bytes ScreenList)) ≡ false
+    → (length (w .bytes ScreenList) ≡ listBytes) × (scrollLatch (w .machine) ≤ latchMost)
+unfolding lengthsList
+accepted-list w e =
+    let over = ltb latchMost (scrollLatch (w .machine)) in
+    let picture = length (w .bytes Picture) in
+    let list = length (w .bytes ScreenList) in
+    let both = passed (lengthsList picture list) over latchRefused (λ is. omega (arith, is)) (is-accepted _ e) in
+    (both-equal picture pictureBytes list listBytes (both .0) .1, ltb-false latchMost (scrollLatch (w .machine)) (both .1))
 
 stored-leaves :
     (seen : Seen) (byte : ℕ) (w : World) (part : Part) → has (storedAt seen) part ≡ false → Same part (storedIn seen byte w) w
@@ -270,6 +279,7 @@ changes-only (StoreWithPicture a b) w part h = go (refusedWithPicture a w) refl
         (with-leaves Picture _ w refl part (aside .0)))
 changes-only (GlyphPart k) w part h = same-refl part w
 changes-only (DrawLine r s) w part h = with-leaves Line _ w refl part (apart (AllOf Line) [] part h .0)
+changes-only ListLines w part h = with-leaves ScreenList _ w refl part (apart (AllOf ScreenList) [] part h .0)
 
 pub lengths-stay : LengthsStay
 lengths-stay (Read8088 a) w one = refl
@@ -323,4 +333,12 @@ lengths-stay (DrawLine r s) w one =
     (either (λ (left : DrawnLine). length (left .line) ≡ length (w .bytes Line))
     (refuses (refusalLine (w .bytes Picture) (w .bytes Glyphs) r s (w .bytes Line))) _ _ (λ _. refl)
     (λ e. line-sized (w .machine) (w .bytes Glyphs) (recordIn (w .bytes Picture) r) s .1 ∙ sym (accepted-line w r s e)))
+    one
+lengths-stay ListLines w one =
+    with-length ScreenList _ w
+    (either (λ (left : Listed). length (left .list) ≡ length (w .bytes ScreenList))
+    (refuses (refusalList (w .machine) (w .bytes Picture) (w .bytes ScreenList))) _ _ (λ _. refl)
+    (λ e.
+    let both = accepted-list w e in
+    always-240 (kindsIn (w .bytes Picture)) (scrollLatch (w .machine)) (both .1) .0 ∙ sym (both .0)))
     one

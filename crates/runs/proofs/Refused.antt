@@ -26,7 +26,8 @@ use Rattle.picture.specs.Draw.{refusalDrawing, DrawnPicture}
 use Rattle.mending.specs.Store.{StoredWithPicture, refusalWithPicture}
 use Rattle.glyphs.specs.Glyphs.{glyphPart, partRefusal}
 use Rattle.scan_line.specs.Call.{refusalLine, DrawnLine}
-use Rattle.runs.specs.World.{Shared, Private, Screen, Attribute, Glyphs, Nvm, Shadow, Picture, Line, World, withMachine, withBytes, readAnswer, drawnAnswer, Read8088, Store8088, ReadZ80, StoreZ80, ReadShadow, WriteShadow, WritePort, VerticalTick, WatchdogTick, Draw, StoreWithPicture, GlyphPart, DrawLine}
+use Rattle.whole_screen.specs.Call.{refusalList, Listed}
+use Rattle.runs.specs.World.{Shared, Private, Screen, Attribute, Glyphs, Nvm, Shadow, Picture, Line, ScreenList, World, withMachine, withBytes, readAnswer, drawnAnswer, Read8088, Store8088, ReadZ80, StoreZ80, ReadShadow, WriteShadow, WritePort, VerticalTick, WatchdogTick, Draw, StoreWithPicture, GlyphPart, DrawLine, ListLines}
 use Rattle.runs.specs.Refused.{AllZero, ChangesNothing}
 use Rattle.runs.proofs.Worlds.{with-own, left8088, none-stored}
 
@@ -159,3 +160,9 @@ changes-nothing (DrawLine r s) w h =
   where
     Kept : DrawnLine → Type 0
     Kept left = (left .refusal ≡ accepted → ⊥) → (withBytes Line (left .line) w ≡ w) × AllZero []
+changes-nothing ListLines w h =
+    either Kept (refuses (refusalList (w .machine) (w .bytes Picture) (w .bytes ScreenList))) _ _
+    (λ _ g. (with-own ScreenList (w .bytes ScreenList) w refl, tt)) (λ _ g. absurd (g refl)) h
+  where
+    Kept : Listed → Type 0
+    Kept left = (left .refusal ≡ accepted → ⊥) → (withBytes ScreenList (left .list) w ≡ w) × AllZero []

@@ -26,7 +26,8 @@ use Rattle.ports.specs.Ports.{writePort}
 use Rattle.picture.specs.Draw.{refusalDrawing, refuseDrawing, DrawnPicture, draw}
 use Rattle.mending.specs.Mending.{marksOf}
 use Rattle.scan_line.specs.Call.{refusalLine, DrawnLine, drawLine}
-use Rattle.runs.specs.World.{Memory, Shared, Private, Screen, Attribute, Glyphs, Nvm, Shadow, Picture, Line, isMemory, World, withMachine, withBytes, answered, drawnAnswer, Read8088, Store8088, ReadZ80, StoreZ80, ReadShadow, WriteShadow, WritePort, VerticalTick, WatchdogTick, Draw, StoreWithPicture, GlyphPart, DrawLine, after, answer}
+use Rattle.whole_screen.specs.Call.{refusalList, Listed, listLines}
+use Rattle.runs.specs.World.{Memory, Shared, Private, Screen, Attribute, Glyphs, Nvm, Shadow, Picture, Line, ScreenList, isMemory, World, withMachine, withBytes, answered, drawnAnswer, Read8088, Store8088, ReadZ80, StoreZ80, ReadShadow, WriteShadow, WritePort, VerticalTick, WatchdogTick, Draw, StoreWithPicture, GlyphPart, DrawLine, ListLines, after, answer}
 use Rattle.runs.specs.Reach.{Part, TheMachine, Z80Bit, InReset, Below0800, From0800, AllOf, has, hasMemory, Same, Alike, SeesOnly}
 use Rattle.runs.proofs.Worlds.{is-memory, storedIn, refused8088, store-refused, store-accepted, refusedZ80, z80-refused, z80-private, z80-shared, not-below, mendedIn, refusedWithPicture, picture-refused, picture-accepted}
 use Rattle.runs.proofs.Reach.{same-by}
@@ -178,6 +179,9 @@ line-told :
     → drawLine m picture table r s line .refusal ≡ refusalLine picture table r s line
 line-told m picture table r s line =
     told (λ (left : DrawnLine). left .refusal) (refusalLine picture table r s line) _ _ refl refl
+
+list-told : (m : Machine) (picture list : List ℕ) → listLines m picture list .refusal ≡ refusalList m picture list
+list-told m picture list = told (λ (left : Listed). left .refusal) (refusalList m picture list) _ _ refl refl
 
 -- a drawing answers the same, whatever the picture holds
 drawing-alike :
@@ -339,4 +343,14 @@ sees-only (DrawLine r s) w v c =
           (line-told (w .machine) (w .bytes Picture) (w .bytes Glyphs) r s (w .bytes Line) ∙ same
           ∙ sym (line-told (v .machine) (v .bytes Picture) (v .bytes Glyphs) r s (v .bytes Line))),
       with-alike Line _ _ w v (λ e. rw (m, picture, table, e)) refl,
+    )
+sees-only ListLines w v c =
+    let m = c .seen TheMachine refl in
+    let picture = c .seen (AllOf Picture) refl in
+    let same : refusalList (w .machine) (w .bytes Picture) (w .bytes ScreenList) ≡ refusalList (v .machine) (v .bytes Picture) (v .bytes ScreenList) =
+    rw (m, picture, c .lengths ScreenList refl) in (
+      ap (λ (n : ℕ). answered n [])
+          (list-told (w .machine) (w .bytes Picture) (w .bytes ScreenList) ∙ same
+          ∙ sym (list-told (v .machine) (v .bytes Picture) (v .bytes ScreenList))),
+      with-alike ScreenList _ _ w v (λ e. rw (m, picture, e)) refl,
     )

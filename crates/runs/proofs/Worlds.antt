@@ -16,10 +16,10 @@ use Rattle.picture.specs.Draw.{chainOf}
 use Rattle.readers.specs.Readers.{firstReader}
 use Rattle.mending.specs.Mending.{mended}
 use Rattle.mending.specs.Store.{refusalWithPicture}
-use Rattle.runs.specs.World.{Memory, Shared, Private, Screen, Attribute, Glyphs, Nvm, Shadow, Picture, Line, numberOf, isMemory, World, withBytes, Store8088, StoreZ80, StoreWithPicture, after}
+use Rattle.runs.specs.World.{Memory, Shared, Private, Screen, Attribute, Glyphs, Nvm, Shadow, Picture, Line, ScreenList, numberOf, isMemory, World, withBytes, Store8088, StoreZ80, StoreWithPicture, after}
 
 memories : List Memory
-memories = Shared ∷ Private ∷ Screen ∷ Attribute ∷ Glyphs ∷ Nvm ∷ Shadow ∷ Picture ∷ Line ∷ []
+memories = Shared ∷ Private ∷ Screen ∷ Attribute ∷ Glyphs ∷ Nvm ∷ Shadow ∷ Picture ∷ Line ∷ ScreenList ∷ []
 
 nth : List Memory → ℕ → Memory
 nth [] n = Shared
@@ -37,6 +37,7 @@ back Nvm = refl
 back Shadow = refl
 back Picture = refl
 back Line = refl
+back ScreenList = refl
 
 pub is-memory : (one other : Memory) → isMemory one other ≡ true → one ≡ other
 is-memory one other h = sym (back one) ∙ ap (nth memories) (eqb-true (numberOf one) (numberOf other) h) ∙ back other

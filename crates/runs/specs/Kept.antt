@@ -6,9 +6,12 @@ use mathlib.Core.Path.{_≡_}
 use mathlib.Core.List.{List, [], _∷_}
 use mathlib.Core.Bool.{Bool, true, not, cond, _&&_, _||_}
 use Rattle.lent.specs.Refusals.{accepted, refuses}
+use Rattle.machine.specs.Settings.{scrollLatch}
 use Rattle.picture.specs.Picture.{pictureOf}
 use Rattle.picture.specs.Draw.{chainOf}
-use Rattle.runs.specs.World.{Memory, Screen, Attribute, Picture, World, Call, StoreZ80, WritePort, VerticalTick, WatchdogTick, Draw, StoreWithPicture, after, answer}
+use Rattle.whole_screen.specs.Screen.{screenLines}
+use Rattle.whole_screen.specs.Fresh.{kindsOf}
+use Rattle.runs.specs.World.{Memory, Screen, Attribute, Picture, ScreenList, World, Call, StoreZ80, WritePort, VerticalTick, WatchdogTick, Draw, StoreWithPicture, ListLines, after, answer}
 use Rattle.runs.specs.Reach.{AllOf, mayChange}
 
 -- in place of a memory a caller may lend another
@@ -97,3 +100,13 @@ KeptFromDrawing =
     (steps : List Step) (w : World) → allInRuns steps (after Draw w) ≡ true → answer Draw w .refusal ≡ accepted
     → let last = playedAll steps (after Draw w) in
     last .bytes Picture ≡ pictureOf (chainOf (last .machine) (last .bytes Screen) (last .bytes Attribute))
+
+-- 02, ticket 5: so the whole screen's list, which the tablet makes from the kept picture, is that of the chain's kinds
+abbrev pub ListFromKept : Type 0
+ListFromKept =
+    (steps : List Step) (w : World) → allInRuns steps (after Draw w) ≡ true → answer Draw w .refusal ≡ accepted
+    → let last = playedAll steps (after Draw w) in
+    answer ListLines last .refusal ≡ accepted
+    → after ListLines last .bytes ScreenList
+    ≡ screenLines (kindsOf (chainOf (last .machine) (last .bytes Screen) (last .bytes Attribute)))
+    (scrollLatch (last .machine))

@@ -17,8 +17,9 @@ use Rattle.picture.specs.declared.Drawn.{Drawn}
 use Rattle.mending.specs.Store.{storeWithPicture}
 use Rattle.glyphs.specs.Glyphs.{glyphPart, partRefusal}
 use Rattle.scan_line.specs.Call.{drawLine}
+use Rattle.whole_screen.specs.Call.{listLines}
 
--- the memories of document 01's list, "Lent memory"
+-- the memories of document 01's list, "Lent memory", and those that document 02 adds
 pub data Memory : Type 0 where
   Shared : Memory
   Private : Memory
@@ -29,6 +30,7 @@ pub data Memory : Type 0 where
   Shadow : Memory
   Picture : Memory
   Line : Memory
+  ScreenList : Memory
 
 -- which one it is in that list, by which two are told apart
 abbrev pub numberOf : Memory → ℕ
@@ -41,6 +43,7 @@ numberOf Nvm = 5
 numberOf Shadow = 6
 numberOf Picture = 7
 numberOf Line = 8
+numberOf ScreenList = 9
 
 abbrev pub isMemory : (one other : Memory) → Bool
 isMemory one other = eqb (numberOf one) (numberOf other)
@@ -73,9 +76,10 @@ pub data Call : Type 0 where
   StoreWithPicture : (address byte : ℕ) → Call
   GlyphPart : (code : ℕ) → Call
   DrawLine : (row scan : ℕ) → Call
+  ListLines : Call
 
--- what a call answers: its number of refusal, and its other numbers: the byte read, the bytes that the walk read, whether
--- a row is wild and the first that is, the marks, the bytes of a part
+-- what a call answers: its number of refusal, and its other numbers: the byte read, the bytes that the walk read,
+-- whether a row is wild and the first that is, the marks, the bytes of a part
 pub record Answer : Type 0 where
   pub refusal : ℕ
   pub numbers : List ℕ
@@ -136,6 +140,9 @@ outcome (GlyphPart code) w =
 outcome (DrawLine row scan) w =
     let left = drawLine (w .machine) (w .bytes Picture) (w .bytes Glyphs) row scan (w .bytes Line) in
     leaving (answered (left .refusal) []) (withBytes Line (left .line) w)
+outcome ListLines w =
+    let left = listLines (w .machine) (w .bytes Picture) (w .bytes ScreenList) in
+    leaving (answered (left .refusal) []) (withBytes ScreenList (left .list) w)
 
 abbrev pub answer : Call → World → Answer
 answer call w = outcome call w .answer

@@ -16,7 +16,7 @@ use Rattle.scan_line.specs.Line.{lineOf}
 unfoldable pub lengthsLine : (picture table line : ℕ) → Bool
 lengthsLine picture table line = eqb picture pictureBytes && (eqb table glyphBytes && eqb line lineBytes)
 
--- "5: a row over 23, a scan outside 1 to 10"
+-- "5: a row over 24, a scan outside 1 to 10", the row limit by 02, ticket 5
 unfoldable pub onTube : (row scan : ℕ) → Bool
 onTube row scan = ltb row rows && (leb firstScan scan && leb scan lastScan)
 

@@ -15,7 +15,7 @@ fn main() {
     if settings.wrong {
         io::write_all(
             STDERR_FILENO,
-            b"tube: each argument must be 132, reverse, blink or blanked\n",
+            b"tube: each argument must be 132, reverse, blink, blanked or latch=0 to latch=9\n",
         );
         return;
     }

@@ -9,8 +9,33 @@ pub struct Settings {
     // The blink flip-flop is set.
     pub blink: bool,
     pub blanked: bool,
+    // The scroll latch, 0 to 9.
+    pub latch: u8,
     // An argument was none of these.
     pub wrong: bool,
+}
+
+enum Latch {
+    Asked(u8),
+    NotAsked,
+}
+
+// The latch that a word asks for: latch=0 to latch=9.
+fn latch_in(word: &[u8]) -> Latch {
+    if word.len() != 7 {
+        return Latch::NotAsked;
+    }
+    if !ascii::same(&word[0..6], b"latch=") {
+        return Latch::NotAsked;
+    }
+    let digit = word[6];
+    if digit < 0x30 {
+        return Latch::NotAsked;
+    }
+    if digit > 0x39 {
+        return Latch::NotAsked;
+    }
+    Latch::Asked(digit - 0x30)
 }
 
 fn with_word(before: Settings, word: &[u8]) -> Settings {
@@ -31,7 +56,14 @@ fn with_word(before: Settings, word: &[u8]) -> Settings {
         settings.blanked = true;
         return settings;
     }
-    settings.wrong = true;
+    match latch_in(word) {
+        Latch::Asked(latch) => {
+            settings.latch = latch;
+        }
+        Latch::NotAsked => {
+            settings.wrong = true;
+        }
+    }
     settings
 }
 
@@ -42,6 +74,7 @@ pub fn from_arguments() -> Settings {
         reverse: false,
         blink: false,
         blanked: false,
+        latch: 0,
         wrong: false,
     };
     for i in 1..os::arg_count() {
@@ -68,5 +101,13 @@ pub fn machine(settings: Settings) -> Machine {
     let machine = write(!settings.blanked, machine, 0x0A, 0x02);
     let machine = write(settings.columns132, machine, 0x04, 0x10);
     let machine = write(settings.reverse, machine, 0x0C, 0x0A);
-    write(settings.blink, machine, 0x0C, 0x08)
+    let machine = write(settings.blink, machine, 0x0C, 0x08);
+    // The low two bits of the latch, and its high two.
+    let machine = write(settings.latch > 0, machine, 0x0C, settings.latch % 4);
+    write(
+        settings.latch > 0,
+        machine,
+        0x0C,
+        settings.latch / 4 % 4 + 4,
+    )
 }

@@ -16,7 +16,7 @@ fn main() {
     };
     let stored = store(0xEE004, b'H'); // the picture is mended
     let refused = store(0xF0000, b'H');
-    println!("row 0 is {}, marks {:06X}", row_0(&picture), stored.marks);
+    println!("row 0 is {}, marks {:07X}", row_0(&picture), stored.marks);
     println!("refused by {}", refused.refusal);
 }
 

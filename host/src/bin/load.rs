@@ -18,8 +18,9 @@ struct Asked {
 fn help() {
     println!("{USAGE}");
     println!("Makes N calls of a library (1000000 if not said; a first sweep of some thousands is made whole),");
-    println!("chosen by the seed S, and compares each with a model of documents 01 and 02. Ahead of them come some");
-    println!("millions of ticks of the watchdog's clock, with codes between them; fewer if N is under 1000000.");
+    println!("chosen by the seed S, and compares each with a model of documents 01 and 02. Ahead of them come the");
+    println!("lists of the whole screen with every one or two runs of rows that scroll, and some millions of ticks of");
+    println!("the watchdog's clock, with codes between them; fewer of both if N is under 1000000.");
     println!("LIBRARY is a librainbow.so, or run: and a command that serves its calls, as host/serve.c does.");
     println!("--against: makes each call of a second library too, and compares it with the first.");
     println!("Exit status: 0 no difference, 1 a difference, whose shortest script is printed, 2 bad arguments.");
@@ -104,6 +105,9 @@ fn print_tally(tally: &Tally, seconds: f64) {
     println!("{middle:<20}{:>9}", drawings[1..last].iter().sum::<u64>());
     println!("wild: row {last:<10}{:>9}", drawings[last]);
     println!("{:<20}{:>9}", "wild: no row", drawings[ROWS]);
+    let [at_rest, scrolled] = tally.lists;
+    println!("{:<20}{at_rest:>9}", "lists: at rest");
+    println!("{:<20}{scrolled:>9}", "lists: scrolled");
 }
 
 fn main() {

@@ -1,7 +1,14 @@
-//! Reads the tube's picture, a PGM of four greys, and writes it as a PNG of two bits for a dot.
+//! Reads the tube's picture, a PGM of four greys, and writes it as a PNG of two bits for a dot. With files it puts
+//! their pictures side by side, the left 40 columns of each.
 //! usage: pgm_to_png < PGM > PNG
+//!        pgm_to_png PGM.. > PNG
 use std::collections::HashMap;
 use std::io::{Read, Write};
+
+/// What is shown of a picture that stands beside others, and the white gap between two, in dots.
+const CUT: usize = 400;
+const GAP: usize = 16;
+const WHITE: u8 = 3;
 
 /// A PGM's width and its dots, 0 to 3.
 struct Picture {
@@ -21,6 +28,31 @@ fn picture(pgm: &[u8]) -> Option<Picture> {
     (whole && right).then(|| Picture {
         width,
         dots: dots.to_vec(),
+    })
+}
+
+impl Picture {
+    fn height(&self) -> usize {
+        self.dots.len() / self.width
+    }
+
+    /// The left part of a row.
+    fn left(&self, row: usize) -> &[u8] {
+        &self.dots[row * self.width..][..CUT]
+    }
+}
+
+/// The left parts of pictures of one height, side by side.
+fn side_by_side(pictures: &[Picture]) -> Option<Picture> {
+    let height = pictures.first()?.height();
+    let alike = |picture: &Picture| picture.height() == height && picture.width >= CUT;
+    let row = |row: usize| {
+        let parts: Vec<&[u8]> = pictures.iter().map(|picture| picture.left(row)).collect();
+        parts.join(&[WHITE; GAP][..])
+    };
+    pictures.iter().all(alike).then(|| Picture {
+        width: pictures.len() * (CUT + GAP) - GAP,
+        dots: (0..height).flat_map(row).collect(),
     })
 }
 
@@ -156,7 +188,7 @@ fn chunk(name: &[u8; 4], body: &[u8]) -> Vec<u8> {
 }
 
 fn png(picture: &Picture) -> Vec<u8> {
-    let (width, height) = (picture.width, picture.dots.len() / picture.width);
+    let (width, height) = (picture.width, picture.height());
     let size = [width, height].map(|number| (number as u32).to_be_bytes());
     let rows = packed(picture);
     let stream = deflated(&rows, rows.len() / height);
@@ -172,15 +204,44 @@ fn png(picture: &Picture) -> Vec<u8> {
 }
 
 fn main() -> std::io::Result<()> {
-    let mut pgm = Vec::new();
-    if std::env::args().len() == 1 {
+    let files: Vec<_> = std::env::args_os().skip(1).collect();
+    let shown = if files.is_empty() {
+        let mut pgm = Vec::new();
         std::io::stdin().read_to_end(&mut pgm)?;
-    }
-    match picture(&pgm) {
+        picture(&pgm)
+    } else {
+        let pgms: Vec<Vec<u8>> = files.iter().map(std::fs::read).collect::<Result<_, _>>()?;
+        let pictures: Option<Vec<Picture>> = pgms.iter().map(|pgm| picture(pgm)).collect();
+        pictures.and_then(|pictures| side_by_side(&pictures))
+    };
+    match shown {
         Some(picture) => std::io::stdout().write_all(&png(&picture)),
         None => {
-            eprintln!("usage: pgm_to_png < PGM > PNG, of a PGM (P5) of greys 0 to 3");
+            eprintln!("usage: pgm_to_png < PGM > PNG, or pgm_to_png PGM.. > PNG; a PGM (P5) is of greys 0 to 3");
             std::process::exit(2);
         }
+    }
+}
+
+#[cfg(test)]
+mod tests {
+    use super::*;
+
+    fn grey(width: usize, height: usize, shade: u8) -> Picture {
+        Picture {
+            width,
+            dots: vec![shade; width * height],
+        }
+    }
+
+    #[test]
+    fn pictures_stand_side_by_side() {
+        let both = side_by_side(&[grey(800, 2, 1), grey(400, 2, 2)]).unwrap();
+        let row = [[1; CUT].to_vec(), [WHITE; GAP].to_vec(), [2; CUT].to_vec()].concat();
+        assert_eq!(both.width, row.len());
+        assert_eq!(both.dots, row.repeat(2));
+        assert!(side_by_side(&[grey(800, 2, 1), grey(800, 3, 1)]).is_none());
+        assert!(side_by_side(&[grey(800, 2, 1), grey(399, 2, 1)]).is_none());
+        assert!(side_by_side(&[]).is_none());
     }
 }

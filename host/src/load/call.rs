@@ -4,6 +4,7 @@ use crate::dots::{GLYPHS, LINE};
 use crate::machine::Machine;
 use crate::memories::{ATTRIBUTE, NVM, PRIVATE, SCREEN, SHADOW, SHARED};
 use crate::rainbow::FUNCTIONS;
+use crate::screen::LIST;
 
 /// A lent buffer. `Spare` is a second picture, to draw afresh beside the kept one.
 #[derive(Clone, Copy, Debug, PartialEq, Eq)]
@@ -17,10 +18,11 @@ pub enum Buffer {
     Shadow,
     Picture,
     Line,
+    List,
     Spare,
 }
 
-pub const BUFFERS: [Buffer; 10] = [
+pub const BUFFERS: [Buffer; 11] = [
     Buffer::Shared,
     Buffer::Private,
     Buffer::Screen,
@@ -30,6 +32,7 @@ pub const BUFFERS: [Buffer; 10] = [
     Buffer::Shadow,
     Buffer::Picture,
     Buffer::Line,
+    Buffer::List,
     Buffer::Spare,
 ];
 
@@ -45,6 +48,7 @@ impl Buffer {
             Self::Shadow => SHADOW,
             Self::Picture | Self::Spare => PICTURE,
             Self::Line => LINE,
+            Self::List => LIST,
         }
     }
 
@@ -129,6 +133,7 @@ pub enum Call {
     IsMarked { marks: u32, row: usize },
     GlyphPart { code: u8 },
     ScanLine { row: usize, scan: usize },
+    ListLines,
     SetMachine(Machine),
     AlterPicture { place: usize, byte: u8 },
     StrewPicture { seed: u64 },
@@ -161,6 +166,7 @@ impl Call {
             Self::IsMarked { .. } => "is_marked",
             Self::GlyphPart { .. } => "glyph_part",
             Self::ScanLine { .. } => "scan_line",
+            Self::ListLines => "list_lines",
             _ => return None,
         };
         FUNCTIONS.iter().position(|known| *known == name)
@@ -201,6 +207,7 @@ impl Call {
             Self::StoreWithPicture { .. } => &[Shared, Screen, Attribute, Picture],
             Self::GlyphPart { .. } => &[Table],
             Self::ScanLine { .. } => &[Picture, Table, Line],
+            Self::ListLines => &[Picture, List],
             _ => &[],
         }
     }

@@ -50,11 +50,12 @@ enum Choice {
     Line,
 }
 
-const CHOICES: [(usize, Choice); 23] = [
+const CHOICES: [(usize, Choice); 24] = [
     (260, Choice::Stored),
     (120, Choice::Port),
     (60, Choice::Read8088),
     (60, Choice::Line),
+    (60, Choice::Plain(Call::ListLines)),
     (50, Choice::ReadZ80),
     (50, Choice::StoreZ80),
     (50, Choice::WriteShadow),

@@ -1,19 +1,22 @@
 //! Faults that are put into the tester, to see that it finds each of them and shrinks what found it.
 use super::call::{Buffer, Call};
 use super::library::Library;
+use super::list_fault;
 use super::model::Model;
 use super::seen::mirrored;
 use crate::chain::{wild_rows, PAIRS_AT, PICTURE, PLACES, RECORD, ROWS};
+use crate::dots::SCANS;
 use crate::machine::Machine;
 use crate::rainbow::{Seen, Wild};
+use crate::screen::LIST;
 
 /// Which fault is put in; 0 is none.
 #[derive(Clone, Copy, Debug, PartialEq, Eq)]
 pub struct Fault(pub usize);
 
-pub const FAULTS: [&str; 32] = [
+pub const FAULTS: [&str; 41] = [
     "row 0's link is taken high byte first",
-    "row 23 is never marked",
+    "row 24 is never marked",
     "the Z80's private memory ends a byte later",
     "codes 04 to 07 load the latch's low bits",
     "scan 9 is not underlined",
@@ -21,7 +24,7 @@ pub const FAULTS: [&str; 32] = [
     "the read count is one too high",
     "the mend stops at the first row that changed",
     "the byte after the picture changes in a drawing",
-    "a drawing leaves a wrong byte in row 23, on both sides",
+    "a drawing leaves a wrong byte in row 24, on both sides",
     "a store marks row 0 too, on both sides",
     "at 132 columns, 50 Hz, latch 9, reversed, blinking, with an interrupt, it is blanked",
     "the scroll latch is not taken modulo 16",
@@ -44,6 +47,15 @@ pub const FAULTS: [&str; 32] = [
     "the 8088's reset is told ahead of a wrong length: 8, not 1",
     "a vertical tick is a tick of the watchdog's clock too",
     "code 08 to 0C sets the count to 0, on both sides",
+    "the last run of rows that scroll is taken",
+    "the run's first row loses its bottom scans",
+    "the run's first row loses 10 less L scans, and its last row L",
+    "a run of one row shows in full",
+    "with L 0 the run scrolls, so that row 24 shows",
+    "the whole screen's latch is not taken modulo 16",
+    "row 24 does not show while a run scrolls",
+    "a latch over 9 is refused only where there is a run",
+    "the last line of the list has scan 11, on both sides",
 ];
 
 impl Fault {
@@ -67,6 +79,7 @@ impl Fault {
             (20, Call::StoreZ80 { .. }) => holding(model, call, RUNS),
             (27, Call::WritePort { code: 0x09, .. }) => ended_by(model, call),
             (28, Call::ReadShadow { .. }) => out_of_reset(model, call),
+            (33..=40, Call::ListLines) => list_fault::call(self.0, model),
             _ => self.answer(call, model),
         }
     }
@@ -135,9 +148,14 @@ impl Fault {
 
     /// Faults of the library's side, and some that both sides have.
     pub fn after(self, call: &Call, library: &mut Library, model: &mut Model) {
-        let picture = &mut library.buffers[Buffer::Picture as usize];
+        let [picture, list] = [Buffer::Picture, Buffer::List].map(|buffer| buffer as usize);
+        let picture = &mut library.buffers[picture];
         match (self.0, call) {
             (9, Call::Draw) => picture.break_guard(),
+            (41, Call::ListLines) => {
+                library.buffers[list].content_mut()[LIST - 1] = SCANS as u8 + 1;
+                model.list[LIST - 1] = SCANS as u8 + 1;
+            }
             (10, Call::Draw) => {
                 picture.content_mut()[PICTURE - 1] = 0x0D;
                 model.picture[PICTURE - 1] = 0x0D;

@@ -133,12 +133,13 @@ impl Library {
         }
         let place = (0..other.len()).find(|place| ours[*place] != other[*place])?;
         let ([that, this], theirs, mine) = (sides, other[place], ours[place]);
-        let row = match buffer {
+        let part = match buffer {
             Buffer::Picture | Buffer::Spare => format!(" (row {:X})", place / RECORD),
+            Buffer::List => format!(" (line {:X})", place / 2),
             _ => String::new(),
         };
         Some(format!(
-            "{name} at {place:X}{row}: {that} {theirs:02X}, {this} {mine:02X}"
+            "{name} at {place:X}{part}: {that} {theirs:02X}, {this} {mine:02X}"
         ))
     }
 }

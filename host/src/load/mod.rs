@@ -5,6 +5,8 @@ mod call;
 mod choose;
 mod fault;
 mod library;
+mod list_fault;
+mod list_sweep;
 mod model;
 mod seen;
 mod shrink;
@@ -20,6 +22,7 @@ pub use shrink::Script;
 pub use sides::Tried;
 
 use crate::chain::ROWS;
+use crate::dots::SCANS;
 use crate::hard::Chance;
 use crate::machine::Machine;
 use crate::rainbow::{Seen, FUNCTIONS};
@@ -31,7 +34,8 @@ use watch_runs::MANNERS;
 use world::World;
 
 /// How many calls there were of each function, how many were answered by each number of refusal, of all and of the
-/// Z80's, how many drawings named each row, and what the watchdog did.
+/// Z80's, how many drawings named each row, how many lists there were of a screen at rest and of one that scrolls, and
+/// what the watchdog did.
 #[derive(Default)]
 pub struct Tally {
     pub calls: [u64; FUNCTIONS.len()],
@@ -41,6 +45,8 @@ pub struct Tally {
     pub z80: [u64; REFUSALS + 1],
     /// By the row whose link is wild; the last are those that named none. Refused ones do not count.
     pub drawings: [u64; ROWS + 1],
+    /// At rest, and scrolled. Refused ones do not count.
+    pub lists: [u64; 2],
     pub watched: Watched,
 }
 
@@ -50,7 +56,8 @@ impl Tally {
         self.calls.iter().sum()
     }
 
-    fn count(&mut self, call: &Call, answer: &Seen) {
+    /// Counts a call; `list` is as it left it.
+    fn count(&mut self, call: &Call, answer: &Seen, list: &[u8]) {
         let Some(function) = call.function() else {
             return;
         };
@@ -63,6 +70,9 @@ impl Tally {
             let named = answer.wild.there != 0;
             self.drawings[if named { answer.wild.row.into() } else { ROWS }] += 1;
         }
+        if let (Call::ListLines, 0) = (call, answer.refusal) {
+            self.lists[usize::from(scrolled(list))] += 1;
+        }
     }
 
     fn add(&mut self, other: &Self) {
@@ -74,8 +84,18 @@ impl Tally {
         z80.for_each(|(sum, calls)| *sum += calls);
         let drawings = self.drawings.iter_mut().zip(other.drawings);
         drawings.for_each(|(sum, drawn)| *sum += drawn);
+        let lists = self.lists.iter_mut().zip(other.lists);
+        lists.for_each(|(sum, listed)| *sum += listed);
         self.watched.add(&other.watched);
     }
+}
+
+/// Whether a list differs from that of the rows at rest.
+fn scrolled(list: &[u8]) -> bool {
+    let lines = list.chunks(2).zip(0..);
+    let mut at_rest =
+        lines.map(|(entry, line)| entry == [line / SCANS as u8, line % SCANS as u8 + 1]);
+    !at_rest.all(|same| same)
 }
 
 /// One run: the calls made so far in a world.
@@ -102,7 +122,8 @@ impl<'a> Run<'a> {
     fn step(&mut self, step: Step) -> Result<(), Script> {
         self.steps.push(step);
         let answer = self.sides.step(&step).map_err(|_| self.script())?;
-        self.tally.count(&step.call, &answer);
+        let list = &self.sides.model.list;
+        self.tally.count(&step.call, &answer, list);
         Ok(())
     }
 
@@ -121,18 +142,23 @@ impl<'a> Run<'a> {
 /// As many run at once, each on buffers of its own, which the header allows.
 const THREADS: u64 = 2;
 
-/// Where fewer calls than these are asked for, there is less of the watchdog too: it alone takes some millions.
+/// Where fewer calls than these are asked for, there is less of the whole screen and of the watchdog too: these alone
+/// take some millions.
 const WHOLE: u64 = 1_000_000;
 
 /// The ticks of each long run of the watchdog.
 const RUN_TICKS: u64 = 250_000;
 
-/// Makes the calls of the sweep and those of the watchdog, and then calls by chance until there have been so many.
+/// Makes the calls of the sweeps and those of the watchdog, and then calls by chance. Of the first sweep and by chance
+/// there are so many.
 pub fn load(calls: u64, seed: u64, tried: Tried) -> Result<Tally, Script> {
     let mut chance = Chance(seed);
     let mut tally = sweep_all(sweep::pieces(), &mut chance, tried)?;
     let each = calls.saturating_sub(tally.total()) / THREADS;
-    tally.add(&watchdog(calls.clamp(1, WHOLE), &mut chance, tried)?);
+    let every = (WHOLE / calls.clamp(1, WHOLE)) as usize;
+    let lists = list_sweep::pieces(every);
+    tally.add(&sweep_all(lists, &mut chance, tried)?);
+    tally.add(&watchdog(every, &mut chance, tried)?);
     let threads: Vec<_> = (1..=THREADS)
         .map(|thread| {
             let seed = seed.rotate_left(16 * thread as u32);
@@ -146,8 +172,7 @@ pub fn load(calls: u64, seed: u64, tried: Tried) -> Result<Tally, Script> {
 }
 
 /// The sweep of the watchdog, and a long run in each manner from power-up.
-fn watchdog(calls: u64, chance: &mut Chance, tried: Tried) -> Result<Tally, Script> {
-    let every = (WHOLE / calls) as usize;
+fn watchdog(every: usize, chance: &mut Chance, tried: Tried) -> Result<Tally, Script> {
     let mut tally = sweep_all(watch_sweep::pieces(every), chance, tried)?;
     for manner in MANNERS {
         let mut run = Run::new(chance, tried, &mut tally);

@@ -1,4 +1,4 @@
-//! The model's side: the model of document 01, with its own copy of the buffers and of the machine.
+//! The model's side: the model of the documents, with its own copy of the buffers and of the machine.
 use super::call::{Buffer, Call, Lengths, Step, BUFFERS};
 use super::fault::Fault;
 use super::library::guard;
@@ -8,7 +8,7 @@ use crate::dots;
 use crate::machine::Machine;
 use crate::memories::{self, View8088};
 use crate::rainbow::{self, Seen, Wild};
-use crate::{mending, refusal, Answer};
+use crate::{mending, refusal, screen, Answer};
 
 #[derive(Clone)]
 pub struct Model {
@@ -19,6 +19,7 @@ pub struct Model {
     pub shadow: Vec<u8>,
     pub picture: Vec<u8>,
     pub line: Vec<u8>,
+    pub list: Vec<u8>,
     pub spare: Vec<u8>,
     pub machine: Machine,
 }
@@ -51,6 +52,7 @@ impl Model {
             Buffer::Shadow => &self.shadow,
             Buffer::Picture => &self.picture,
             Buffer::Line => &self.line,
+            Buffer::List => &self.list,
             Buffer::Spare => &self.spare,
         }
     }
@@ -66,6 +68,7 @@ impl Model {
             Buffer::Shadow => &mut self.shadow,
             Buffer::Picture => &mut self.picture,
             Buffer::Line => &mut self.line,
+            Buffer::List => &mut self.list,
             Buffer::Spare => &mut self.spare,
         }
     }
@@ -137,6 +140,10 @@ impl Model {
                 let (picture, table) = (&self.picture, &self.table);
                 let drawn = dots::scan_line(&machine, picture, table, row, scan, line);
                 Seen::refusal(refusal(&drawn))
+            }
+            Call::ListLines => {
+                let listed = screen::list_lines(&self.machine, &self.picture, &mut self.list);
+                Seen::refusal(refusal(&listed))
             }
             Call::ReadShadow { place } => {
                 seen(memories::shadow_read(&self.machine, &self.shadow, place))

@@ -63,20 +63,28 @@ impl Trial {
     }
 }
 
-/// The shortest script that removing and simplifying comes to.
+/// The shortest script that removing and simplifying comes to, in a blank world if there is a difference in it too.
 pub fn shrunk(world: World, steps: &[Step], tried: Tried) -> Option<Script> {
     let trial = Trial::new(world, tried);
-    let script = fewer(&trial, trial.script(steps)?);
-    let script = plainer(&trial, script);
     let blank = World {
         kind: Kind::Blank,
         ..world
     };
     let blank = Trial::new(blank, tried);
-    match blank.script(&script.steps) {
-        Some(script) => Some(plainer(&blank, fewer(&blank, script))),
-        None => Some(script),
-    }
+    let found = trial.script(steps)?;
+    let in_blank = blank.script(&found.steps);
+    let script = match in_blank {
+        Some(script) => return Some(shortest(&blank, script)),
+        None => shortest(&trial, found),
+    };
+    let in_blank = blank.script(&script.steps);
+    Some(in_blank.map_or(script, |script| shortest(&blank, script)))
+}
+
+/// A plainer call may make others needless.
+fn shortest(trial: &Trial, script: Script) -> Script {
+    let script = plainer(trial, fewer(trial, script));
+    fewer(trial, script)
 }
 
 /// Removes halves, then quarters, down to single calls, as long as a difference remains.
@@ -147,7 +155,17 @@ fn plainer_calls(call: &Call) -> Vec<Call> {
             ]
         }
         Call::IsMarked { row, .. } => vec![Call::IsMarked { marks: 0, row }],
-        Call::SetMachine(_) => vec![Call::SetMachine(Machine::power_up())],
+        Call::AlterPicture { place, .. } => {
+            vec![Call::AlterPicture { place, byte: 0 }, Call::Draw]
+        }
+        Call::StrewPicture { .. } | Call::OtherPicture { .. } => vec![Call::Draw],
+        Call::SetMachine(Machine { latch, .. }) => {
+            let plain = Machine::power_up();
+            vec![
+                Call::SetMachine(Machine { latch, ..plain }),
+                Call::SetMachine(plain),
+            ]
+        }
         _ => Vec::new(),
     }
 }

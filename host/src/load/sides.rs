@@ -6,11 +6,13 @@ use super::model::Model;
 use super::seen::mirrored;
 use super::words::answered;
 use super::world::{self, World};
-use crate::chain::{self, PICTURE, RECORD};
+use crate::chain::{self, PICTURE, RECORD, ROWS};
+use crate::dots::SCANS;
 use crate::hard::Chance;
 use crate::history::History;
 use crate::machine::Machine;
 use crate::rainbow::{self, Seen};
+use crate::screen::LINES;
 
 /// What is tried: a library beside the model, and a second library beside the first if there is one.
 #[derive(Clone, Copy)]
@@ -50,6 +52,17 @@ const LIBRARIES: [&str; 2] = ["library", "second library"];
 
 fn same(differs: Option<Differs>) -> Result<(), Differs> {
     differs.map_or(Ok(()), Err)
+}
+
+/// The first line of a list that is no scan of a row, or does not come after the line before it. "It is shown to be 240
+/// lines for every L from 0 to 9."
+fn misplaced(list: &[u8]) -> Option<usize> {
+    let line = |at: usize| (usize::from(list[2 * at]), usize::from(list[2 * at + 1]));
+    (0..LINES).find(|at| {
+        let (row, scan) = line(*at);
+        let shown = row < ROWS && (1..=SCANS).contains(&scan);
+        !shown || *at > 0 && line(*at - 1) >= (row, scan)
+    })
 }
 
 impl Sides {
@@ -154,7 +167,7 @@ impl Sides {
         Ok(())
     }
 
-    /// What document 01 demands of the library alone, whatever the model says.
+    /// What the documents demand of the library alone, whatever the model says.
     fn demands(&self, call: &Call, seen: &Seen) -> Result<(), Differs> {
         match call {
             Call::StoreWithPicture { .. } => {
@@ -175,6 +188,13 @@ impl Sides {
                     let (row, byte) = (place / RECORD, place % RECORD);
                     return Err(format!(
                         "the kept picture differs from a fresh one in row {row:X}, byte {byte:X}"
+                    ));
+                }
+            }
+            Call::ListLines if seen.refusal == 0 => {
+                if let Some(line) = misplaced(self.library.content(Buffer::List)) {
+                    return Err(format!(
+                        "line {line:X} of the list is no scan of a row, or not below the one before it"
                     ));
                 }
             }

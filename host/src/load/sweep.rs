@@ -36,7 +36,7 @@ fn ports() -> Vec<Call> {
     listed.chain(each).collect()
 }
 
-/// Every byte in the latch: read, loaded by a code from 00 to 07, and read again.
+/// Every byte in the latch: read, used by the whole screen, loaded by a code from 00 to 07, and read and used again.
 fn latches() -> Vec<Call> {
     let mut calls = Vec::new();
     for latch in 0..=255 {
@@ -46,9 +46,9 @@ fn latches() -> Vec<Call> {
         };
         let (port, code) = (0x0C, latch / 16 % 8);
         calls.push(Call::SetMachine(machine));
-        calls.push(Call::ScrollLatch);
+        calls.extend([Call::ScrollLatch, Call::ListLines]);
         calls.push(Call::WritePort { port, code });
-        calls.push(Call::ScrollLatch);
+        calls.extend([Call::ScrollLatch, Call::ListLines]);
     }
     calls
 }
@@ -144,7 +144,8 @@ fn marks() -> Vec<Call> {
         let rows = (0..MARK_BITS + 2).chain([64, 1 << 32, usize::MAX]);
         rows.map(move |row| Call::IsMarked { marks, row })
     };
-    let all = [0, 1, 0x80_0000, 0xFF_FFFF, 0x8000_0000, u32::MAX];
+    let (last, rows) = (1 << (ROWS - 1), (1 << ROWS) - 1);
+    let all = [0, 1, last, rows, last << 1, 0x8000_0000, u32::MAX];
     all.into_iter().flat_map(of_marks).collect()
 }
 
@@ -173,9 +174,10 @@ fn in_reset() -> Vec<Call> {
         for (row, scan) in [(0, 1), (ROWS, 1), (0, 0)] {
             calls.push(Call::ScanLine { row, scan });
         }
-        calls.extend([Call::GlyphPart { code: 0x41 }, Call::PowerUp]);
+        calls.extend([Call::ListLines, Call::GlyphPart { code: 0x41 }]);
         calls.extend([Call::Columns, Call::Z80Runs, Call::Blanked, Call::Graphics]);
-        calls.extend([Call::ScrollLatch, Call::DotsOfLine, Call::Version]);
+        calls.extend([Call::ScrollLatch, Call::DotsOfLine]);
+        calls.extend([Call::PowerUp, Call::Version]);
         calls.push(Call::WatchdogTick { times: 300 });
     }
     calls
@@ -193,7 +195,8 @@ fn resetting(held: u8) -> Machine {
 }
 
 /// Every call that is lent buffers, with each of them of each wrong length; those of the Z80 while it is held and while
-/// it runs, those of the 8088 while it runs and while it is in reset.
+/// it runs, those of the 8088 while it runs and while it is in reset, the whole screen's with a latch that is refused
+/// and with one that is not.
 fn lengths() -> Vec<Step> {
     let (address, byte) = (0xEE000, 0x41);
     let calls = [
@@ -208,10 +211,14 @@ fn lengths() -> Vec<Step> {
         Call::StoreWithPicture { address, byte },
         Call::GlyphPart { code: 0x41 },
         Call::ScanLine { row: 0, scan: 1 },
+        Call::ListLines,
     ];
     let mut steps = Vec::new();
-    for held in [0x00, 0x01] {
-        let reset = resetting(held);
+    for (held, latch) in [(0x00, 0x09), (0x01, 0x0A)] {
+        let reset = Machine {
+            latch,
+            ..resetting(held)
+        };
         let runs = Machine {
             reset: false,
             ..reset

@@ -6,6 +6,7 @@ use crate::hard::{self, Chance};
 use crate::machine::Machine;
 use crate::memories::{View8088, NVM, PRIVATE, SHADOW, SHARED};
 use crate::sample::herd_book;
+use crate::screen::LIST;
 
 /// What the chain of a world is like.
 #[derive(Clone, Copy, Debug, PartialEq, Eq)]
@@ -251,6 +252,7 @@ impl World {
             shadow: strewn(chance, SHADOW),
             picture: strewn(chance, PICTURE),
             line: strewn(chance, LINE),
+            list: strewn(chance, LIST),
             spare: strewn(chance, PICTURE),
             machine,
         }

@@ -2,9 +2,10 @@
 use crate::chain::PICTURE;
 use crate::dots::{GLYPHS, LINE};
 use crate::memories::{ATTRIBUTE, NVM, PRIVATE, SCREEN, SHADOW, SHARED};
+use crate::screen::LIST;
 
 /// The forms, in the order that `help` has.
-pub const FORMS: [&str; 30] = [
+pub const FORMS: [&str; 31] = [
     "store HHHHHHHH HH",
     "blind HHHHHHHH HH",
     "read HHHHHHHH",
@@ -18,6 +19,7 @@ pub const FORMS: [&str; 30] = [
     "draw",
     "marked HHHHHHHH DDDDD",
     "line DDDDD DDDDD",
+    "lines",
     "glyph HH",
     "dots",
     "scroll",
@@ -37,8 +39,8 @@ pub const FORMS: [&str; 30] = [
     "strew NAME DDDDD DDDDD DDDDD",
 ];
 
-/// The memories with their lengths by document 01, in the order of their names.
-pub const NAMES: [(&str, usize); 9] = [
+/// The memories with their lengths by documents 01 and 02, in the order of their names.
+pub const NAMES: [(&str, usize); 10] = [
     ("shared", SHARED),
     ("private", PRIVATE),
     ("screen", SCREEN),
@@ -48,6 +50,7 @@ pub const NAMES: [(&str, usize); 9] = [
     ("shadow", SHADOW),
     ("picture", PICTURE),
     ("line", LINE),
+    ("lines", LIST),
 ];
 
 pub const LONGEST: usize = 200;
@@ -168,7 +171,13 @@ mod tests {
             let line = format!("put {name} 7 1F");
             assert_eq!(call(&line), Some(vec![at as u32, 7, 0x1F]));
         }
-        for bad in ["put Shared 7 1F", "put share 7 1F", "put shareds 7 1F"] {
+        for bad in [
+            "put Shared 7 1F",
+            "put share 7 1F",
+            "put shareds 7 1F",
+            "put lin 7 1F",
+            "put liness 7 1F",
+        ] {
             assert_eq!(call(bad), None);
         }
     }
@@ -258,5 +267,7 @@ mod tests {
         let forms = vec!["shadow write DDDDD HH", "shadow read DDDDD"];
         assert_eq!(bad, Line::Bad(forms));
         assert_eq!(understood(b"help me"), Line::Bad(vec!["help"]));
+        assert_eq!(understood(b"line"), Line::Bad(vec!["line DDDDD DDDDD"]));
+        assert_eq!(understood(b"lines 1"), Line::Bad(vec!["lines"]));
     }
 }

@@ -75,8 +75,10 @@ mod tests {
         assert_eq!(shown::refused("port HHHH HH", 6), both);
         let reset = "refused 8, byte 00: the 8088 is in reset";
         assert_eq!(shown::refused("shadow read DDDDD", 8), reset);
-        let other = "refused 9, byte 00: a refusal that the monitor does not know";
-        assert_eq!(shown::refused("read HHHHHHHH", 9), other);
+        let latch = "refused 9: the scroll latch is over 9";
+        assert_eq!(shown::refused("lines", 9), latch);
+        let other = "refused 10, byte 00: a refusal that the monitor does not know";
+        assert_eq!(shown::refused("read HHHHHHHH", 10), other);
     }
 
     #[test]
@@ -84,7 +86,7 @@ mod tests {
         let lines: [(&str, &str); 16] = [
             ("store 5 41", "stored, marks 00000000\n"),
             ("draw", "drawn, bytes read: 81, no wild row named\n"),
-            ("store ee000 fF", "stored, marks 00FFFFFF 0 1 2 3"),
+            ("store ee000 fF", "stored, marks 01FFFFFF 0 1 2 3"),
             ("read 10000", "refused 2, byte 00: the 8088 sees no memory"),
             ("bytes screen 4095 2", "bytes 00 00\n"),
             ("bytes screen 4096 2", "expected a place, or places"),
@@ -149,8 +151,8 @@ mod tests {
             ),
             ("lend screen 4096", "lent\n"),
             ("fill screen FF", "filled\n"),
-            ("draw", "drawn, bytes read: 72, first wild row: 0\n"),
-            ("list 0", "columns 80 reads 72\n0 0000 3 0\n1 0FFF 0 0\n"),
+            ("draw", "drawn, bytes read: 75, first wild row: 0\n"),
+            ("list 0", "columns 80 reads 75\n0 0000 3 0\n1 0FFF 0 0\n"),
             ("draw 1", "expected draw\n"),
         ];
         let mut session = Session::power_up();
@@ -231,6 +233,46 @@ mod tests {
             ("watch 99999", told("watched", 1, 31, 1)),
             ("power", told("power-up", 0, 0, 0)),
             ("watch 100000", "expected watch DDDDD\n".to_string()),
+        ];
+        let mut session = Session::power_up();
+        for (line, begins) in lines {
+            let answer = String::from_utf8(session.answer(line.as_bytes())).unwrap();
+            assert!(answer.starts_with(&begins), "{line}: {answer}");
+        }
+    }
+
+    /// 02, ticket 5: "Otherwise all 25 show, but the run's first row loses its top L scans and its last row its bottom
+    /// 10 less L". "Refusals: 9, a whole screen asked for with L over 9".
+    #[test]
+    fn lines_of_the_whole_screen() {
+        let full = |rows: std::ops::Range<usize>| -> String {
+            rows.map(|row| format!(" {row}:1-10")).collect()
+        };
+        let at_rest = format!("lines{}\n", full(0..24));
+        let lines = [
+            ("lines", at_rest.clone()),
+            ("put picture 538 04", "put\n".to_string()),
+            ("put picture 806 04", "put\n".to_string()),
+            ("lines", at_rest.clone()),
+            ("port 0C 03", "written: ".to_string()),
+            (
+                "lines",
+                format!("lines{} 2:4-10 3:1-3{}\n", full(0..2), full(4..25)),
+            ),
+            ("bytes lines 478 3", "bytes 18 0A 00\n".to_string()),
+            ("port 0C 06", "written: ".to_string()),
+            (
+                "lines",
+                "refused 9: the scroll latch is over 9\n".to_string(),
+            ),
+            ("lend lines 481", "lent\n".to_string()),
+            (
+                "lines",
+                "refused 1: a memory lent at another length".to_string(),
+            ),
+            ("power", "power-up: ".to_string()),
+            ("lines", at_rest),
+            ("lines 1", "expected lines\n".to_string()),
         ];
         let mut session = Session::power_up();
         for (line, begins) in lines {

@@ -7,6 +7,7 @@ use crate::dots;
 use crate::machine::Machine;
 use crate::memories::{self, View8088};
 use crate::mending;
+use crate::screen;
 use crate::Answer;
 
 const SHARED: usize = 0;
@@ -18,6 +19,7 @@ const NVM: usize = 5;
 const SHADOW: usize = 6;
 const PICTURES: usize = 7;
 const LINE: usize = 8;
+const LINES: usize = 9;
 
 pub struct Session {
     machine: Machine,
@@ -94,6 +96,7 @@ impl Session {
     fn without_numbers(&mut self, form: &str) -> Answer<String> {
         let word = match form {
             "draw" => return self.draw(),
+            "lines" => return self.lines(),
             "sums" => {
                 let memories = self.memories.iter();
                 return Ok(shown::sums(memories.map(|memory| &memory.bytes[..])));
@@ -208,6 +211,13 @@ impl Session {
         dots::scan_line(&self.machine, picture, glyphs, row, scan, &mut line)?;
         self.put_back(LINE, &line);
         Ok(shown::dots(&line[..self.dots()]))
+    }
+
+    fn lines(&mut self) -> Answer<String> {
+        let mut list = self.taken(LINES);
+        screen::list_lines(&self.machine, self.lent(PICTURES), &mut list)?;
+        self.put_back(LINES, &list);
+        Ok(shown::lines(&list))
     }
 
     /// The dots of a line.

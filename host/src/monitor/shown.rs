@@ -22,6 +22,7 @@ pub fn refused(form: &str, number: u8) -> String {
         6 => "bits 6 and 7 both rise",
         7 => "the Z80 is held in reset",
         8 => "the 8088 is in reset",
+        9 => "the scroll latch is over 9",
         _ => "a refusal that the monitor does not know",
     };
     format!("refused {number}{beside}: {words}")
@@ -85,6 +86,19 @@ pub fn dots(line: &[u8]) -> String {
         lit => char::from(b'0' + lit),
     };
     line.iter().map(dot).collect()
+}
+
+/// The rows of a list of lines, each with the first and the last scan that show of it.
+pub fn lines(list: &[u8]) -> String {
+    let mut stretches: Vec<[u8; 3]> = Vec::new();
+    for line in list.chunks(2) {
+        match stretches.last_mut() {
+            Some([row, _, last]) if *row == line[0] => *last = line[1],
+            _ => stretches.push([line[0], line[1], line[1]]),
+        }
+    }
+    let shown = |[row, first, last]: &[u8; 3]| format!(" {row}:{first}-{last}");
+    format!("lines{}", stretches.iter().map(shown).collect::<String>())
 }
 
 pub fn rows(picture: &[u8]) -> Vec<String> {

@@ -197,6 +197,10 @@ unsafe fn lending(
                 machine, a, a_len, b, b_len, m as usize, n as usize, c, c_len,
             ))
         }
+        "list_lines" => {
+            let call = of!(at, (Machine, In, usize, Out, usize) -> u8);
+            Seen::refusal(call(machine, a, a_len, b, b_len))
+        }
         _ => unreachable!("no function {name}"),
     }
 }

@@ -24,7 +24,7 @@ pub struct Machine {
 }
 
 /// The functions of the header, without `rainbow_`. host/serve.c has the same numbers.
-pub const FUNCTIONS: [&str; 22] = [
+pub const FUNCTIONS: [&str; 23] = [
     "version",
     "power_up",
     "vertical_tick",
@@ -47,6 +47,7 @@ pub const FUNCTIONS: [&str; 22] = [
     "is_marked",
     "glyph_part",
     "scan_line",
+    "list_lines",
 ];
 
 /// An answer. `value` is the one number that the call gives: the byte, the reads, the marks, the place, the

@@ -69,9 +69,9 @@ const CALLS: [Tried<'static>; 11] = [
     ("the part of a code", &["glyphs"], "glyph 00", "glyph FF"),
 ];
 
-/// The calls with the two that draw; one is refused at a row past the last.
+/// The calls with the three that make a picture's dots; one is refused at a row past the last.
 fn calls(past: &str) -> Vec<Tried<'_>> {
-    let drawing: [Tried; 2] = [
+    let drawing: [Tried; 3] = [
         (
             "the drawing call",
             &["screen", "attribute", "picture"],
@@ -83,6 +83,12 @@ fn calls(past: &str) -> Vec<Tried<'_>> {
             &["picture", "glyphs", "line"],
             "line 0 1",
             past,
+        ),
+        (
+            "the list of the whole screen",
+            &["picture", "lines"],
+            "lines",
+            "lines",
         ),
     ];
     CALLS.into_iter().chain(drawing).collect()
@@ -112,6 +118,14 @@ pub fn script() -> Script {
             }
             script.line("port 0A 00");
         }
+        if right == "lines" {
+            script.remark("The same with the scroll latch over 9; then at their own lengths.");
+            script.line("latch 0A");
+            for name in memories {
+                refused(&mut script, name, right, wrong);
+            }
+            script.lines(&["lines", "latch 00"]);
+        }
         if by_8088(right) {
             script.remark("The same while the 8088 is in reset; then at their own lengths.");
             reset(&mut script);
@@ -133,6 +147,7 @@ pub fn script() -> Script {
         "lend glyphs 0",
         "lend nvm 0",
         "lend line 0",
+        "lend lines 0",
     ]);
     script.lines(&["draw", "read EE000", "blind EE000 41", "store EE000 42"]);
     script.lines(&["shadow write 0 05", "shadow read 0", "power"]);
@@ -140,7 +155,8 @@ pub fn script() -> Script {
     script.lines(&["lend picture 0", "glyph 41", "power", "lend picture 0"]);
     script.lines(&["read EE000", "blind EE000 43", "power", "lend screen 0"]);
     script.lines(&["lend attribute 0", "port 0A 01"]);
-    script.lines(&["z80 read 0800", "line 0 1"]);
+    script.lines(&["z80 read 0800", "line 0 1", "lend glyphs 0"]);
+    script.lines(&["lend line 0", "lines"]);
     script.remark("Lent at their own lengths, each is accepted, or refused by the next number.");
     script.lines(&["power", "z80 read 0000", "z80 store 0000 41"]);
     script.line("port 0A 03");

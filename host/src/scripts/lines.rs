@@ -1,10 +1,11 @@
-//! Scan lines of pictures of any bytes, at every setting.
+//! Scan lines of pictures of any bytes, at every setting, and the lists of their lines.
 use super::{Script, RECORD, ROWS};
 
 pub fn script() -> Script {
     let mut script = Script::new(
         0,
-        "SCAN LINES of pictures of any bytes, over strewn glyph tables. The part of every code.",
+        "SCAN LINES of pictures of any bytes, over strewn glyph tables. The part of every code. The lines of the whole \
+         screen at latches 1 to 8.",
     );
     script.line("strew glyphs 500 8 256");
     for code in 0..256 {
@@ -35,7 +36,8 @@ pub fn script() -> Script {
             let scan = (row * 3 + setting * 7) % 10 + 1;
             script.line(&format!("line {row} {scan}"));
         }
-        script.line("sums");
+        script.line(&format!("latch {:02X}", setting + 1));
+        script.lines(&["lines", "sums"]);
     }
     script
 }

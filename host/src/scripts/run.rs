@@ -7,7 +7,7 @@ pub fn script() -> Script {
     let mut script = Script::new(
         5,
         "A RUN. Stores by both processors, the Z80 held or running, ticks, writes to ports, refused ones \
-         too; one picture kept.",
+         too; one picture kept. The lines of the whole screen now and then.",
     );
     script.lines(&["fill shadow 11", "fill nvm EE", "strew screen 51 40 17"]);
     script.lines(&["strew attribute 52 30 256", "draw"]);
@@ -20,6 +20,7 @@ pub fn script() -> Script {
         }
         if turn % 20 == 0 {
             script.compare();
+            script.line("lines");
         }
     }
     script.lines(&["machine", "rows"]);

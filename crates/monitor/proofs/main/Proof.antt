@@ -3,11 +3,11 @@ use Rattle.monitor.proofs.main.Statement.{statement}
 use Rattle.monitor.proofs.main.Tie as tie
 
 abbrev Inv-loop : tie.InvT-loop
-Inv-loop shared₀ private₀ screen₀ attribute₀ glyphs₀ nvm₀ shadow₀ picture₀ line₀ desk₀ source₀ turns₀ shared private screen attribute glyphs nvm shadow picture line desk source turns =
+Inv-loop shared₀ private₀ screen₀ attribute₀ glyphs₀ nvm₀ shadow₀ picture₀ line₀ lines₀ desk₀ source₀ turns₀ shared private screen attribute glyphs nvm shadow picture line lines desk source turns =
     Unit {0}
 
 abbrev μ-loop : tie.MeasureT-loop
-μ-loop shared₀ private₀ screen₀ attribute₀ glyphs₀ nvm₀ shadow₀ picture₀ line₀ desk₀ source₀ turns₀ shared private screen attribute glyphs nvm shadow picture line desk source turns =
+μ-loop shared₀ private₀ screen₀ attribute₀ glyphs₀ nvm₀ shadow₀ picture₀ line₀ lines₀ desk₀ source₀ turns₀ shared private screen attribute glyphs nvm shadow picture line lines desk source turns =
     turns
 
 power-up-requires : tie.Need-power-up-requires Inv-loop μ-loop
@@ -28,11 +28,8 @@ next-requires c κs = search needs
 returns : tie.Need-returns Inv-loop μ-loop
 returns c = search needs
 
-slice-aggregate-line : tie.Need-slice-aggregate-line Inv-loop μ-loop
-slice-aggregate-line c = search needs
-
-line-requires : tie.Need-line-requires Inv-loop μ-loop
-line-requires c κs = search needs
+slice-aggregate-turn : tie.Need-slice-aggregate-turn Inv-loop μ-loop
+slice-aggregate-turn c = search needs
 
 turn-requires : tie.Need-turn-requires Inv-loop μ-loop
 turn-requires c κs = search needs
@@ -61,8 +58,7 @@ main-spec =
     slice-aggregate-next
     next-requires
     returns
-    slice-aggregate-line
-    line-requires
+    slice-aggregate-turn
     turn-requires
     sub-turns
     loop-less

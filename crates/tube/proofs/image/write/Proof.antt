@@ -1,14 +1,23 @@
 use Prim.Native.Nat.{_-_, _≤_}
+use mathlib.Core.Path.{_≡_}
+use lib.ListN.{length}
 use borrow.Author.Needs.{needs}
-use Rattle.chain.specs.Chain.{rows}
+use Rattle.lent.specs.Lengths.{listBytes}
+use Rattle.whole_screen.specs.Screen.{lines}
 use Rattle.tube.proofs.image.write.Statement.{statement}
 use Rattle.tube.proofs.image.write.Tie as tie
 
 abbrev Inv-loop : tie.InvT-loop
-Inv-loop machine picture table n₀ n = n ≤ rows
+Inv-loop machine picture table list line₀ line = (line ≤ lines) × (length list ≡ listBytes)
 
 abbrev μ-loop : tie.MeasureT-loop
-μ-loop machine picture table n₀ n = rows - n
+μ-loop machine picture table list line₀ line = lines - line
+
+slice-aggregate-list-lines : tie.Need-slice-aggregate-list-lines Inv-loop μ-loop
+slice-aggregate-list-lines c = search needs
+
+list-lines-requires : tie.Need-list-lines-requires Inv-loop μ-loop
+list-lines-requires c κs = search needs
 
 slice-aggregate-write-all : tie.Need-slice-aggregate-write-all Inv-loop μ-loop
 slice-aggregate-write-all c = search needs
@@ -40,11 +49,26 @@ write-all-requires-3 c κs = search needs
 loop-holds : tie.Need-loop-holds Inv-loop μ-loop
 loop-holds c = search needs
 
-row-requires : tie.Need-row-requires Inv-loop μ-loop
-row-requires c κs = search needs
+mul-scan-line : tie.Need-mul-scan-line Inv-loop μ-loop
+mul-scan-line c = search needs
 
-add-n : tie.Need-add-n Inv-loop μ-loop
-add-n c = search needs
+array-read-scan-line : tie.Need-array-read-scan-line Inv-loop μ-loop
+array-read-scan-line c = search needs
+
+mul-scan-line-2 : tie.Need-mul-scan-line-2 Inv-loop μ-loop
+mul-scan-line-2 c = search needs
+
+add-scan-line : tie.Need-add-scan-line Inv-loop μ-loop
+add-scan-line c = search needs
+
+array-read-scan-line-2 : tie.Need-array-read-scan-line-2 Inv-loop μ-loop
+array-read-scan-line-2 c = search needs
+
+scan-line-requires : tie.Need-scan-line-requires Inv-loop μ-loop
+scan-line-requires c κs = search needs
+
+add-line : tie.Need-add-line Inv-loop μ-loop
+add-line c = search needs
 
 loop-less : tie.Need-loop-less Inv-loop μ-loop
 loop-less c = search needs
@@ -61,6 +85,8 @@ write-spec =
     (tie.spec
     Inv-loop
     μ-loop
+    slice-aggregate-list-lines
+    list-lines-requires
     slice-aggregate-write-all
     write-all-requires
     dots-of-line-requires
@@ -71,8 +97,13 @@ write-spec =
     slice-aggregate-write-all-3
     write-all-requires-3
     loop-holds
-    row-requires
-    add-n
+    mul-scan-line
+    array-read-scan-line
+    mul-scan-line-2
+    add-scan-line
+    array-read-scan-line-2
+    scan-line-requires
+    add-line
     loop-less
     loop-again
     returns)

@@ -1,0 +1,8 @@
+pub mod Numbers
+pub mod Run
+pub mod Lines
+pub mod Filling
+pub mod Seeking
+pub mod Shown
+pub mod Smooth
+pub mod Fresh
