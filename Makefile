@@ -17,7 +17,7 @@
 # make compare    the row lister beside the model on 5,000 screens that are hard to walk, the tube on 500; the monitor's
 #                 scripts
 # make mutants    mutants of the code, each against the stored runs; CRATES='a b' for some crates
-# make bench      the library beside plain C, in time and in instructions
+# make bench      the library beside plain C and the best C that we can write, in time and in instructions
 # make emulated   the kit's own archive and programs, which are for x86-64, beside the library of this machine
 #
 # What is made again:
@@ -41,8 +41,8 @@ PACKAGE = target/rust/rainbow
 PROGRAMS = rows tube monitor
 
 # Two libraries are made of the same source: target/library by rustc, for the machine at hand, and target/library-kit by
-# the kit's compiler, for x86-64 alone. LIBRARY is the one that a part of make host or make bench tries; KIT says
-# whether there is the second.
+# the kit's compiler, for x86-64 alone. LIBRARY is the one that a part of make host tries; KIT says whether there
+# is the second.
 KIT := $(if $(filter x86_64,$(MACHINE)),$(shell command -v rt))
 LIBRARY ?= target/library
 LIBRARIES = target/library $(if $(KIT),target/library-kit)
@@ -294,14 +294,21 @@ emulated: model archive library programs
 		$(MAKE) host-c host-fences CC=$(CROSS) LIBRARY=target/staticlib RUN='tools/kit run' SANITIZE=; \
 	else echo 'no $(CROSS): the C programs are left out'; fi
 
-bench: library $(if $(KIT),kit-library)
+# The kit's library is a side of the bench beside rustc's, so each of its names gets kit_ ahead.
+target/host/libkit.a: kit-library
 	@mkdir -p target/host
-	@for library in $(LIBRARIES); do \
-		$(C) -O3 bench/bench.c bench/plain.c $$library/librainbow.a -o target/host/bench || exit 1; \
-		echo "$$library/librainbow.a, by $$(if [ $$library = target/library ]; then rustc --version; \
-			else rt version; fi), beside plain C by $$($(CC) --version | head -n 1), on $(MACHINE):"; \
-		echo; bench/table target/host/bench || exit 1; echo; \
-	done
+	@nm -g --defined-only target/library-kit/librainbow.a | awk 'NF == 3 { print $$3, "kit_" $$3 }' \
+		> target/host/kit.names
+	@objcopy --redefine-syms=target/host/kit.names target/library-kit/librainbow.a $@
+
+bench: library $(if $(KIT),target/host/libkit.a)
+	@mkdir -p target/host
+	@$(C) -O3 $(if $(KIT),-DWITH_KIT) bench/bench.c bench/plain.c bench/best.c target/library/librainbow.a \
+		$(if $(KIT),target/host/libkit.a) -o target/host/bench
+	@echo "rustc: $$(rustc --version); $(if $(KIT),kit: $$(rt version | head -n 1); )C: $$($(CC) --version | head -n 1)," \
+		"on $(MACHINE)"
+	@echo
+	@bench/table target/host/bench
 
 clean:
 	rm -rf target host/target examples/rust/Cargo.lock python/__pycache__

@@ -1,11 +1,14 @@
-/* Measures the library beside plain C of the same job.
+/* Measures the library beside C of the same job: plain C, and the best C that we can write.
  *
- *   bench times              a line for each job: nanoseconds of the library, of plain C, best of many
+ *   bench sides              the names of the sides
  *   bench jobs               the names of the jobs
- *   bench count SIDE JOB N   does the job N times and no more, for a tool that counts instructions; SIDE is
- *                            library or plain
+ *   bench times              a line for each job: nanoseconds of each side, best of many
+ *   bench count SIDE JOB N   does the job N times and no more, for a tool that counts instructions
+ *
+ * With WITH_KIT the kit's library is a side too, each of its names with kit_ ahead, so that all are timed in one run.
  */
 #define _POSIX_C_SOURCE 199309L
+#include "best.h"
 #include "plain.h"
 
 #include <stdio.h>
@@ -15,6 +18,7 @@
 
 /* What a side is made of. */
 typedef struct {
+    const char *name;
     rainbow_drawn (*draw)(rainbow_machine, const uint8_t *, size_t, const uint8_t *, size_t, uint8_t *, size_t);
     rainbow_stored (*store)(rainbow_machine, uint8_t *, size_t, uint8_t *, size_t, uint8_t *, size_t, uint8_t *,
                             size_t, uint32_t, uint8_t);
@@ -24,9 +28,29 @@ typedef struct {
     uint8_t (*list_lines)(rainbow_machine, const uint8_t *, size_t, uint8_t *, size_t);
 } side;
 
-static const side library = {rainbow_draw, rainbow_store_with_picture, rainbow_store_8088, rainbow_scan_line,
-                             rainbow_list_lines};
-static const side plain = {plain_draw, plain_store_with_picture, plain_store_8088, plain_scan_line, plain_list_lines};
+#ifdef WITH_KIT
+rainbow_drawn kit_rainbow_draw(rainbow_machine, const uint8_t *, size_t, const uint8_t *, size_t, uint8_t *, size_t);
+rainbow_stored kit_rainbow_store_with_picture(rainbow_machine, uint8_t *, size_t, uint8_t *, size_t, uint8_t *, size_t,
+                                              uint8_t *, size_t, uint32_t, uint8_t);
+uint8_t kit_rainbow_store_8088(rainbow_machine, uint8_t *, size_t, uint8_t *, size_t, uint8_t *, size_t, uint32_t,
+                               uint8_t);
+uint8_t kit_rainbow_scan_line(rainbow_machine, const uint8_t *, size_t, const uint8_t *, size_t, size_t, size_t,
+                              uint8_t *, size_t);
+uint8_t kit_rainbow_list_lines(rainbow_machine, const uint8_t *, size_t, uint8_t *, size_t);
+#endif
+
+/* The first side is the one that the others are compared with. */
+static const side sides[] = {
+    {"rustc", rainbow_draw, rainbow_store_with_picture, rainbow_store_8088, rainbow_scan_line, rainbow_list_lines},
+#ifdef WITH_KIT
+    {"kit", kit_rainbow_draw, kit_rainbow_store_with_picture, kit_rainbow_store_8088, kit_rainbow_scan_line,
+     kit_rainbow_list_lines},
+#endif
+    {"plain", plain_draw, plain_store_with_picture, plain_store_8088, plain_scan_line, plain_list_lines},
+    {"best", best_draw, best_store_with_picture, plain_store_8088, best_scan_line, best_list_lines},
+};
+
+enum { SIDES = sizeof sides / sizeof sides[0] };
 
 static rainbow_machine machine;
 static uint8_t shared[RAINBOW_SHARED_BYTES], screen[RAINBOW_SCREEN_BYTES], attribute[RAINBOW_ATTRIBUTE_BYTES];
@@ -34,12 +58,44 @@ static uint8_t picture[RAINBOW_PICTURE_BYTES], fresh[RAINBOW_PICTURE_BYTES];
 static uint8_t table[RAINBOW_GLYPH_BYTES], line[RAINBOW_LINE_BYTES], lines[RAINBOW_LIST_BYTES];
 static volatile uint32_t answers; /* what the calls answered, so that none is left out and both sides can be compared */
 
-/* A full screen: rows of as many cells as their kind has, one after the other, and after the last a row like them. The
- * links of rows 12 and 23 are wild. Row 0 is normal and does not scroll, whatever the kind of the others. */
+/* The screens, each at 80 or 132 columns and with rows of a kind, but for row 0, which is normal and does not scroll.
+ * FULL has rows of as many cells as their kind has, one after the other, and after the last a row like them; the links
+ * of rows 12 and 23 are wild. The rows of SHORT have eight cells. The rows of WRAPS but for row 0 go past place 4095 in
+ * their middle: it is one row that leads to itself. In TORN no byte is FF, so that row 0 is torn and the others dark. */
+typedef enum { FULL, SHORT, WRAPS, TORN } layout;
+
 static unsigned columns, start_of[RAINBOW_ROWS + 1];
 
-static void lay(unsigned wanted, uint8_t kind, uint8_t latch) {
-    unsigned place = 0, seed = 1;
+/* A cell of a row, one in eight with an attribute of its own. */
+static void lay_cell(unsigned place) {
+    static unsigned seed = 1;
+    seed = place == 0 ? 1 : seed * 1664525u + 1013904223u;
+    screen[place % 4096] = (uint8_t)(0x20 + (seed >> 16) % 95);
+    attribute[place % 4096] = (uint8_t)((seed >> 24) % 8 == 0 ? (seed >> 20) % 16 : 0x0E);
+}
+
+static void lay_link(unsigned place, unsigned link, uint8_t kind) {
+    screen[place % 4096] = 0xFF;
+    screen[(place + 1) % 4096] = (uint8_t)link;
+    screen[(place + 2) % 4096] = (uint8_t)(link >> 8);
+    attribute[(place + 1) % 4096] = kind;
+}
+
+static void lay_rows(layout screens, uint8_t kind) {
+    unsigned place = 0;
+    for (unsigned row = 0; row <= RAINBOW_ROWS; row++) {
+        unsigned cells = row == 0 || kind % 4 == 3 ? columns : columns / 2;
+        if (screens == SHORT)
+            cells = 8;
+        start_of[row] = place;
+        for (unsigned cell = 0; cell < cells; cell++)
+            lay_cell(place++);
+        lay_link(place, (place + 3) | (screens == FULL && (row == 12 || row == 23) ? 0x5000u : 0), kind);
+        place += 3;
+    }
+}
+
+static void lay(layout screens, unsigned wanted, uint8_t kind, uint8_t latch) {
     columns = wanted;
     machine = rainbow_power_up();
     machine.columns132 = wanted == 132;
@@ -47,20 +103,19 @@ static void lay(unsigned wanted, uint8_t kind, uint8_t latch) {
     machine.latch = latch;
     memset(screen, 0, sizeof screen);
     memset(attribute, 0x0E, sizeof attribute);
-    for (int row = 0; row <= RAINBOW_ROWS; row++) {
-        unsigned cells = row == 0 || kind % 4 == 3 ? columns : columns / 2;
-        start_of[row] = place;
-        for (unsigned cell = 0; cell < cells; cell++) {
-            seed = seed * 1664525u + 1013904223u;
-            screen[place % 4096] = (uint8_t)(0x20 + (seed >> 16) % 95);
-            attribute[place % 4096] = (uint8_t)((seed >> 24) % 8 == 0 ? (seed >> 20) % 16 : 0x0E);
-            place++;
-        }
-        screen[place % 4096] = 0xFF;
-        screen[(place + 1) % 4096] = (uint8_t)(place + 3);
-        screen[(place + 2) % 4096] = (uint8_t)((place + 3) >> 8 | (row == 12 || row == 23 ? 0x50 : 0));
-        attribute[(place + 1) % 4096] = kind;
-        place += 3;
+    if (screens == TORN) {
+        for (unsigned place = 0; place < 4096; place++)
+            lay_cell(place);
+    } else if (screens == WRAPS) {
+        unsigned half = columns / 2;
+        for (unsigned place = 0; place < half; place++)
+            lay_cell(place);
+        for (unsigned place = 4096 - half; place < 4096; place++)
+            lay_cell(place);
+        lay_link(half, 4096 - half, kind);
+        start_of[1] = 4096 - half;
+    } else {
+        lay_rows(screens, kind);
     }
     for (unsigned at = 0; at < sizeof table; at++)
         table[at] = (uint8_t)((at * 2654435761u) >> 13);
@@ -83,6 +138,8 @@ static void store_in_turn(const side *with, unsigned place, uint8_t one, uint8_t
 
 static void store_unread(const side *with) { store_in_turn(with, 4000, 'A', 'B'); }
 static void store_row_0(const side *with) { store_in_turn(with, start_of[0] + 40, 'A', 'B'); }
+static void store_cell_4(const side *with) { store_in_turn(with, 4, 'A', 'B'); }
+static void store_row_1(const side *with) { store_in_turn(with, start_of[1] + 20, 'A', 'B'); }
 static void store_row_12(const side *with) { store_in_turn(with, start_of[12] + 40, 'A', 'B'); }
 static void store_row_23(const side *with) { store_in_turn(with, start_of[23] + 40, 'A', 'B'); }
 static void store_row_24(const side *with) { store_in_turn(with, start_of[24] + 40, 'A', 'B'); }
@@ -141,35 +198,49 @@ static void tube_by_list(const side *with) {
 
 static const struct job {
     const char *name;
+    layout screens;
     unsigned columns;
     uint8_t kind;
     uint8_t latch;
     void (*once)(const side *);
 } jobs[] = {
-    {"draw-80", 80, 3, 0, draw},
-    {"draw-132", 132, 3, 0, draw},
-    {"store-unread", 80, 3, 0, store_unread},
-    {"store-row-0", 80, 3, 0, store_row_0},
-    {"store-row-12", 80, 3, 0, store_row_12},
-    {"store-row-23", 80, 3, 0, store_row_23},
-    {"store-row-24", 80, 3, 0, store_row_24},
-    {"store-link", 80, 3, 0, store_link},
-    {"store-unread-132", 132, 3, 0, store_unread},
-    {"store-row-23-132", 132, 3, 0, store_row_23},
-    {"redraw-unread", 80, 3, 0, redraw_unread},
-    {"redraw-row-23", 80, 3, 0, redraw_row_23},
-    {"line-80", 80, 3, 0, scan_line},
-    {"line-80-wide", 80, 6, 0, scan_line},
-    {"line-132", 132, 3, 0, scan_line},
-    {"line-132-wide", 132, 6, 0, scan_line},
-    {"tube-80", 80, 3, 0, tube},
-    {"tube-132", 132, 3, 0, tube},
-    {"list", 80, 7, 5, list},
-    {"list-rest", 80, 7, 0, list},
-    {"tube-by-list", 80, 7, 5, tube_by_list},
+    {"draw-80", FULL, 80, 3, 0, draw},
+    {"draw-132", FULL, 132, 3, 0, draw},
+    {"draw-short", SHORT, 80, 3, 0, draw},
+    {"draw-wraps", WRAPS, 80, 3, 0, draw},
+    {"draw-torn", TORN, 80, 3, 0, draw},
+    {"store-unread", FULL, 80, 3, 0, store_unread},
+    {"store-row-0", FULL, 80, 3, 0, store_row_0},
+    {"store-row-12", FULL, 80, 3, 0, store_row_12},
+    {"store-row-23", FULL, 80, 3, 0, store_row_23},
+    {"store-row-24", FULL, 80, 3, 0, store_row_24},
+    {"store-link", FULL, 80, 3, 0, store_link},
+    {"store-unread-132", FULL, 132, 3, 0, store_unread},
+    {"store-row-23-132", FULL, 132, 3, 0, store_row_23},
+    {"store-unread-short", SHORT, 80, 3, 0, store_unread},
+    {"store-row-0-short", SHORT, 80, 3, 0, store_cell_4},
+    {"store-unread-wraps", WRAPS, 80, 3, 0, store_unread},
+    {"store-row-1-wraps", WRAPS, 80, 3, 0, store_row_1},
+    {"store-unread-torn", TORN, 80, 3, 0, store_unread},
+    {"store-row-0-torn", TORN, 80, 3, 0, store_cell_4},
+    {"redraw-unread", FULL, 80, 3, 0, redraw_unread},
+    {"redraw-row-23", FULL, 80, 3, 0, redraw_row_23},
+    {"line-80", FULL, 80, 3, 0, scan_line},
+    {"line-80-wide", FULL, 80, 6, 0, scan_line},
+    {"line-132", FULL, 132, 3, 0, scan_line},
+    {"line-132-wide", FULL, 132, 6, 0, scan_line},
+    {"line-dark", TORN, 80, 3, 0, scan_line},
+    {"tube-80", FULL, 80, 3, 0, tube},
+    {"tube-132", FULL, 132, 3, 0, tube},
+    {"tube-torn", TORN, 80, 3, 0, tube},
+    {"list", FULL, 80, 7, 5, list},
+    {"list-rest", FULL, 80, 7, 0, list},
+    {"tube-by-list", FULL, 80, 7, 5, tube_by_list},
 };
 
-enum { JOBS = sizeof jobs / sizeof jobs[0], BATCHES = 60 };
+enum { JOBS = sizeof jobs / sizeof jobs[0], BATCHES = 60, MIXED = 2000 };
+
+static void lay_for(const struct job *job) { lay(job->screens, job->columns, job->kind, job->latch); }
 
 static double now(void) {
     struct timespec t;
@@ -177,74 +248,145 @@ static double now(void) {
     return (double)t.tv_sec * 1e9 + (double)t.tv_nsec;
 }
 
-static const side *const sides[2] = {&library, &plain};
-
-static void differ(const struct job *job) {
-    fprintf(stderr, "bench: %s: the library and plain C answer differently\n", job->name);
+static void differ(const char *job, const char *name) {
+    fprintf(stderr, "bench: %s: %s and %s answer differently\n", job, sides[0].name, name);
     exit(1);
 }
 
-/* What a job leaves is the same on both sides, byte by byte. */
-static void compare(const struct job *job) {
-    static uint8_t left[2][sizeof picture + sizeof line + sizeof lines];
-    for (int s = 0; s < 2; s++) {
-        lay(job->columns, job->kind, job->latch);
-        memset(line, 0xA5, sizeof line);
-        memset(lines, 0xA5, sizeof lines);
-        job->once(sides[s]);
-        memcpy(left[s], picture, sizeof picture);
-        memcpy(left[s] + sizeof picture, line, sizeof line);
-        memcpy(left[s] + sizeof picture + sizeof line, lines, sizeof lines);
-    }
-    if (memcmp(left[0], left[1], sizeof left[0]) != 0)
-        differ(job);
+/* All that a call can leave. */
+typedef struct {
+    uint8_t shared[sizeof shared], screen[sizeof screen], attribute[sizeof attribute], picture[sizeof picture];
+    uint8_t line[sizeof line], lines[sizeof lines];
+    uint32_t answers;
+} left_behind;
+
+static void keep(left_behind *left) {
+    memcpy(left->shared, shared, sizeof shared);
+    memcpy(left->screen, screen, sizeof screen);
+    memcpy(left->attribute, attribute, sizeof attribute);
+    memcpy(left->picture, picture, sizeof picture);
+    memcpy(left->line, line, sizeof line);
+    memcpy(left->lines, lines, sizeof lines);
+    left->answers = answers;
 }
 
-/* The best of many batches, of about a millisecond each; the two sides take turns. */
+/* What a job leaves is the same on every side, byte by byte. */
+static void compare(const struct job *job) {
+    static left_behind left[2];
+    for (int s = 0; s < SIDES; s++) {
+        lay_for(job);
+        memset(line, 0xA5, sizeof line);
+        memset(lines, 0xA5, sizeof lines);
+        answers = 0;
+        job->once(&sides[s]);
+        keep(&left[s > 0]);
+        if (s > 0 && memcmp(&left[0], &left[1], sizeof left[0]) != 0)
+            differ(job->name, sides[s].name);
+    }
+}
+
+static unsigned chosen;
+
+static unsigned choose(unsigned under) {
+    chosen = chosen * 1664525u + 1013904223u;
+    return (chosen >> 8) % under;
+}
+
+/* Memories that are hard to walk, and then a call of each kind, some of them refused. */
+static void mixed(const side *with, unsigned seed) {
+    chosen = seed * 2654435761u;
+    unsigned every = 4 + choose(200);
+    machine = rainbow_power_up();
+    machine.columns132 = choose(2), machine.reverse = choose(2), machine.blink = choose(2);
+    machine.held = (uint8_t)(choose(4) == 0 ? choose(256) : 2), machine.latch = (uint8_t)choose(12);
+    for (unsigned at = 0; at < 4096; at++) {
+        screen[at] = (uint8_t)(choose(every) == 0 ? 0xFF : choose(256));
+        attribute[at] = (uint8_t)choose(256);
+        table[at] = (uint8_t)choose(256);
+    }
+    for (unsigned at = 0; at < sizeof picture; at++)
+        picture[at] = (uint8_t)choose(256);
+    if (choose(4) != 0)
+        draw(with);
+    for (int i = 0; i < 4; i++) {
+        rainbow_stored stored =
+            with->store(machine, shared, sizeof shared, screen, sizeof screen - (choose(50) == 0), attribute,
+                        sizeof attribute, picture, sizeof picture, 0xEDFF0 + choose(0x2020), (uint8_t)choose(256));
+        answers = answers * 31 + stored.marks * 16 + stored.refusal;
+        uint8_t refusal = with->scan_line(machine, picture, sizeof picture, table, sizeof table, choose(26),
+                                          choose(12), line, sizeof line - (choose(50) == 0));
+        answers = answers * 31 + refusal;
+    }
+    answers = answers * 31 + with->list_lines(machine, picture, sizeof picture, lines, sizeof lines);
+}
+
+static void compare_mixed(void) {
+    static left_behind left[2];
+    for (unsigned seed = 1; seed <= MIXED; seed++)
+        for (int s = 0; s < SIDES; s++) {
+            answers = 0;
+            mixed(&sides[s], seed);
+            keep(&left[s > 0]);
+            if (s > 0 && memcmp(&left[0], &left[1], sizeof left[0]) != 0)
+                differ("a mixture", sides[s].name);
+        }
+}
+
+/* The best of many batches, of about a millisecond each; the sides take turns. */
 static void time_job(const struct job *job) {
-    double best[2] = {1e18, 1e18};
-    uint32_t told[2];
+    double best[SIDES];
+    uint32_t told[SIDES];
     compare(job);
-    lay(job->columns, job->kind, job->latch);
+    lay_for(job);
     double begin = now();
     unsigned many = 0;
     do
-        job->once(&library), many++;
+        job->once(&sides[0]), many++;
     while (now() - begin < 1e6);
     for (int batch = 0; batch < BATCHES; batch++)
-        for (int s = 0; s < 2; s++) {
-            lay(job->columns, job->kind, job->latch);
+        for (int s = 0; s < SIDES; s++) {
+            lay_for(job);
             answers = 0;
             begin = now();
             for (unsigned i = 0; i < many; i++)
-                job->once(sides[s]);
+                job->once(&sides[s]);
             double each = (now() - begin) / many;
-            if (each < best[s])
+            if (batch == 0 || each < best[s])
                 best[s] = each;
             told[s] = answers;
         }
-    if (told[0] != told[1])
-        differ(job);
-    printf("%s %.1f %.1f\n", job->name, best[0], best[1]);
+    printf("%s", job->name);
+    for (int s = 0; s < SIDES; s++) {
+        if (told[s] != told[0])
+            differ(job->name, sides[s].name);
+        printf(" %.1f", best[s]);
+    }
+    printf("\n");
 }
 
 static int count_job(const char *which, const char *name, int many) {
-    const side *with = strcmp(which, "library") == 0 ? &library : &plain;
-    for (int i = 0; i < JOBS; i++)
-        if (strcmp(name, jobs[i].name) == 0) {
-            lay(jobs[i].columns, jobs[i].kind, jobs[i].latch);
-            for (int n = 0; n < many; n++)
-                jobs[i].once(with);
-            return 0;
-        }
-    fprintf(stderr, "bench: no job %s\n", name);
+    for (int s = 0; s < SIDES; s++)
+        for (int i = 0; i < JOBS; i++)
+            if (strcmp(which, sides[s].name) == 0 && strcmp(name, jobs[i].name) == 0) {
+                lay_for(&jobs[i]);
+                for (int n = 0; n < many; n++)
+                    jobs[i].once(&sides[s]);
+                return 0;
+            }
+    fprintf(stderr, "bench: no side %s, or no job %s\n", which, name);
     return 2;
 }
 
 int main(int words, char **word) {
     if (words == 2 && strcmp(word[1], "times") == 0) {
+        compare_mixed();
         for (int i = 0; i < JOBS; i++)
             time_job(&jobs[i]);
+        return 0;
+    }
+    if (words == 2 && strcmp(word[1], "sides") == 0) {
+        for (int s = 0; s < SIDES; s++)
+            puts(sides[s].name);
         return 0;
     }
     if (words == 2 && strcmp(word[1], "jobs") == 0) {
@@ -254,6 +396,6 @@ int main(int words, char **word) {
     }
     if (words == 5 && strcmp(word[1], "count") == 0)
         return count_job(word[2], word[3], atoi(word[4]));
-    fprintf(stderr, "usage: bench times | bench jobs | bench count library|plain JOB N\n");
+    fprintf(stderr, "usage: bench sides | bench jobs | bench times | bench count SIDE JOB N\n");
     return 2;
 }

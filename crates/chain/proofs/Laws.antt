@@ -1,5 +1,5 @@
 -- Laws about the chain: the search for a terminator, a line's capacity, what lies ahead, one row and those after it.
-use Prim.Native.Nat.{ℕ, zero, suc, _+_, _-_, _/_, _≤_, _<_}
+use Prim.Native.Nat.{ℕ, zero, suc, _+_, _/_, _≤_, _<_}
 use mathlib.Core.Path.{_≡_, refl, sym, ap, _∙_}
 use mathlib.Core.List.{List}
 use mathlib.Core.Bool.{Bool, true, false, cond}
@@ -7,43 +7,19 @@ use native.Mathlib.Nat.{mod-lt, mod-eq-of-lt}
 use native.Mathlib.Omega.{arith}
 use lib.ListN.{getD}
 use lib.Dec.{eqb}
-use borrow.Author.Tests.{eq-eqb, ne-eqb, eqb-true, eqb-false}
+use borrow.Author.Tests.{eqb-true, eqb-false}
 use Rattle.chain.specs.Chain.{Chain, places, Row as ARow, Whole, Torn, Dark as DarkRow, byteAt, wide, capacity, firstFF, terminator, link, ended, rowFrom, next, rowAt}
 use Rattle.chain.specs.Inner.{rowAhead, aheadAfter, aheadOf, Placed}
 use Rattle.chain.specs.declared.Head.{Head}
 use Rattle.chain.specs.declared.Terminator.{Terminator}
-use Rattle.chain.specs.declared.Terminator.the-variants.{After, Missing}
+use Rattle.chain.specs.declared.Terminator.the-variants.{After}
 
 -- a place ahead of the end of memory is the byte's own
 pub straight : (memory : List ℕ) (place : ℕ) → place < places → getD memory place 0 ≡ byteAt memory place
 unfolding byteAt
 straight memory place under = ap (λ (p : ℕ). getD memory p 0) (sym (mod-eq-of-lt under))
 
--- the search through `bytes` bytes that has passed `cells` of them and reads the next
-module _
-    (screen : List ℕ)
-    (start bytes cells : ℕ)
-    {byte : ℕ}
-    (read : byte ≡ byteAt screen (start + cells))
-    (more : cells < bytes) where
-  left : bytes - cells ≡ suc (bytes - (cells + 1))
-  left = omega arith
-
-  pub search-ends : byte ≡ 0xFF → firstFF screen start cells (bytes - cells) ≡ After cells
-  unfolding firstFF
-  search-ends h = rw (left, eq-eqb (byteAt screen (start + cells)) 0xFF (sym read ∙ h))
-
-  pub search-goes-on :
-      (byte ≡ 0xFF → ⊥)
-      → firstFF screen start cells (bytes - cells) ≡ firstFF screen start (cells + 1) (bytes - (cells + 1))
-  unfolding firstFF
-  search-goes-on h = rw (left, ne-eqb (byteAt screen (start + cells)) 0xFF (λ e. h (read ∙ e)))
-
-pub search-fails :
-    (screen : List ℕ) (start bytes cells : ℕ) → cells ≡ bytes → firstFF screen start cells (bytes - cells) ≡ Missing
-unfolding firstFF
-search-fails screen start bytes cells h = let none : bytes - cells ≡ 0 = omega arith in rw none
-
+-- what a search finds is one of the bytes that it looks at
 pub found-within :
     (screen : List ℕ) (start cells bytes : ℕ) {n : ℕ} → firstFF screen start cells bytes ≡ After n → n < cells + bytes
 unfolding firstFF

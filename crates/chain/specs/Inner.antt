@@ -1,10 +1,11 @@
 -- No sentence of document 01: what our own functions promise each other.
-use Prim.Native.Nat.{ℕ, zero, suc, _+_, _-_, _≤_, _<_}
+use Prim.Native.Nat.{ℕ, zero, suc, _+_, _≤_, _<_}
 use mathlib.Core.Path.{_≡_}
 use mathlib.Core.List.{List, [], _∷_}
-use mathlib.Core.Bool.{Bool, false, _||_}
+use mathlib.Core.Bool.{Bool, false, cond, _||_}
+use lib.ListN.{length, drop}
 use lib.Dec.{eqb}
-use Rattle.chain.specs.Chain.{Chain, Whole, Torn, Dark as DarkRow, places, first, firstFF, link, rowFrom, rowAt, Row as ARow}
+use Rattle.chain.specs.Chain.{Chain, Whole, Torn, Dark as DarkRow, places, first, link, rowFrom, rowAt, Row as ARow}
 use Rattle.chain.specs.declared.Ahead.{Ahead}
 use Rattle.chain.specs.declared.Ahead.the-variants.{Row, Dark}
 
@@ -34,7 +35,12 @@ unfoldable pub hasFF : List ℕ → Bool
 hasFF [] = false
 hasFF (byte ∷ bytes) = eqb byte 0xFF || hasFF bytes
 
--- a search through so many bytes that has passed some of them: what is left of it gives the answer
-pub record Sought (screen : List ℕ) (start bytes cells : ℕ) : Type 0 where
-  pub within : cells ≤ bytes
-  pub search-left : firstFF screen start 0 bytes ≡ firstFF screen start cells (bytes - cells)
+-- how many of these bytes come ahead of the first FF: all, where there is none
+unfoldable pub aheadOfFF : List ℕ → ℕ
+aheadOfFF [] = 0
+aheadOfFF (byte ∷ bytes) = let later = aheadOfFF bytes in cond (eqb byte 0xFF) 0 (suc later)
+
+-- a search through these bytes that has passed some of them: what is left of it gives the answer
+pub record Sought (bytes : List ℕ) (at : ℕ) : Type 0 where
+  pub within : at ≤ length bytes
+  pub search-left : aheadOfFF bytes ≡ at + aheadOfFF (drop at bytes)

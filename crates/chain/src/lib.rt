@@ -1,10 +1,10 @@
 // The chain of lines in screen memory: where a row starts, how many cells it can have, and what its
 // link says of the row after it. Document 01, "The chain of lines".
-ghost use Prim.Native.Nat.{_+_, _≤_, _<_};
+ghost use Prim.Native.Nat.{_+_, _-_, _≤_, _<_, min};
 ghost use mathlib.Core.Path.{_≡_};
 ghost use lib.ListN.{length};
 ghost use Rattle.lent.specs.Lengths.{screenBytes, attributeBytes};
-ghost use Rattle.chain.specs.Inner.{hasFF, Sought};
+ghost use Rattle.chain.specs.Inner.{hasFF, aheadOfFF, Sought};
 ghost use Rattle.chain.specs.Chain.{places, byteAt, wide, capacity, first, firstFF, link};
 ghost use Rattle.chain.specs.Wild.{wildLink};
 
@@ -20,12 +20,15 @@ const NORMAL: u8 = 3;
 pub const TOP_HALF: u8 = 1;
 
 pub const BOTTOM_HALF: u8 = 0;
-// So many bytes are looked at together.
-const TOGETHER: usize = 16;
+// So many bytes are looked at together, and then so many.
+const MANY_TOGETHER: usize = 16;
 
-// Where a row starts, and its kind.
+const FEW_TOGETHER: usize = 8;
+
+// Where a row starts, and its kind. A start of two bytes leaves next to no padding, which a compiler would copy from
+// row to row, through memory.
 pub struct Head {
-    pub start: usize,
+    pub start: u16,
     pub kind: u8,
 }
 
@@ -90,48 +93,64 @@ fn has_terminator(bytes: &[u8]) -> bool
     has
 }
 
-// The bytes of a row, but for the last, that come before the end of memory.
-pub fn before_the_end(start: usize, capacity: usize) -> usize
+// How many of so many bytes, from a place on, come before the end of memory.
+pub fn before_the_end(start: usize, bytes: usize) -> usize
     requires { ⌜ start < places ⌝ }
-    ensures { λ r. ⌜ (r ≤ capacity) × (start + r ≤ places) ⌝ }
+    ensures { λ r. ⌜ r ≡ min bytes (places - start) ⌝ }
 {
     let left = lent::SCREEN_BYTES - start;
-    if left < capacity {
+    if left < bytes {
         return left;
     }
-    capacity
+    bytes
 }
 
-// So many bytes of a row, at least, are no terminator.
-fn pass_together(screen: &[u8], start: usize, capacity: usize) -> usize
-    requires { ⌜ length (now screen) ≡ screenBytes ⌝ }
-    requires { ⌜ (start < places) × (capacity < places) ⌝ }
-    ensures { λ r. ⌜ Sought (now (screen .entry)) start (capacity + 1) r ⌝ }
+// Passes bytes, so many together, as long as none of them is the terminator.
+fn pass_together(bytes: &[u8], from: usize, together: usize) -> usize
+    requires { ⌜ (0 < together) × (together ≤ places) ⌝ }
+    requires { ⌜ Sought (now bytes) from ⌝ }
+    ensures { λ r. ⌜ Sought (now (bytes .entry)) r ⌝ }
 {
-    let room = before_the_end(start, capacity);
-    let mut cells = 0;
-    while cells + TOGETHER <= room {
-        let at = start + cells;
-        if has_terminator(&screen[at..at + TOGETHER]) {
-            return cells;
+    let mut at = from;
+    while at + together <= bytes.len() {
+        if has_terminator(&bytes[at..at + together]) {
+            return at;
         }
-        cells += TOGETHER;
+        at += together;
     }
-    cells
+    at
 }
 
-// Finds the terminator among the first capacity + 1 bytes of a row, and draws nothing.
+// How many of these bytes come ahead of the first terminator: all, where there is none.
+fn ahead_of_terminator(bytes: &[u8]) -> usize
+    ensures { λ r. ⌜ r ≡ aheadOfFF (now (bytes .entry)) ⌝ }
+{
+    let many = pass_together(bytes, 0, MANY_TOGETHER);
+    let mut at = pass_together(bytes, many, FEW_TOGETHER);
+    while at < bytes.len() {
+        if bytes[at] == TERMINATOR {
+            return at;
+        }
+        at += 1;
+    }
+    at
+}
+
+// Finds the terminator among the first capacity + 1 bytes of a row: up to the end of memory, and then from place 0 on.
 pub fn find_terminator(screen: &[u8], start: usize, capacity: usize) -> Terminator
     requires { ⌜ length (now screen) ≡ screenBytes ⌝ }
     requires { ⌜ (start < places) × (capacity < places) ⌝ }
     ensures { λ r. ⌜ r ≡ firstFF (now (screen .entry)) start 0 (capacity + 1) ⌝ }
 {
-    let mut cells = pass_together(screen, start, capacity);
-    while cells <= capacity {
-        if byte_at(screen, start + cells) == TERMINATOR {
-            return Terminator::After(cells);
-        }
-        cells += 1;
+    let straight = before_the_end(start, capacity + 1);
+    let cells = ahead_of_terminator(&screen[start..start + straight]);
+    if cells < straight {
+        return Terminator::After(cells);
+    }
+    let rest = capacity + 1 - straight;
+    let more = ahead_of_terminator(&screen[0..rest]);
+    if more < rest {
+        return Terminator::After(straight + more);
     }
     Terminator::Missing
 }
@@ -146,7 +165,7 @@ pub fn link(screen: &[u8], attribute: &[u8], place: usize) -> Head
     let low = byte_at(screen, place + 1) as usize;
     let high = byte_at(screen, place + 2) as usize;
     Head {
-        start: (low + 256 * high) % lent::SCREEN_BYTES,
+        start: ((low + 256 * high) % lent::SCREEN_BYTES) as u16,
         kind: byte_at(attribute, place + 1) % 8,
     }
 }

@@ -1,23 +1,17 @@
--- Laws about the dots of a cell.
-use Prim.Native.Nat.{ℕ, _/_, _^_, _≤_}
-use mathlib.Core.Path.{_≡_, refl}
-use mathlib.Core.List.{List, [], _∷_, map}
-use mathlib.Core.Bool.{Bool, true, false, not, cond, Bool·beq}
+-- Laws about the shades of a cell's dots, and about what is the same of each number of a few.
+use Prim.Native.Nat.{ℕ, zero, suc, _+_, _≤_, _<_}
+use mathlib.Core.Path.{_≡_, refl, _∙_}
+use mathlib.Core.List.{List, [], _∷_, append-nil}
+use mathlib.Core.Bool.{Bool, true, false, not, Bool·beq}
 use native.Mathlib.Omega.{arith}
-use lib.Bits.{bitAnd, and-mask}
-use Rattle.machine.specs.Settings.{bit}
+use lib.ListN.{length, getD, drop, set, length-drop, length-set, drop-of-length-le}
+use lib.Seq.{getD-set-same, getD-set-other, sets, sets-eq}
+use borrow.Author.Count.{below-more}
+use borrow.Author.Needs.{needs}
+use Rattle.lent.proofs.Tests.{either}
 use Rattle.machine.specs.declared.Machine.{Machine}
-use Rattle.dots.specs.Attributes.{isBold, xor, steady, shade}
-use Rattle.dots.specs.Cell.{narrowWidth, wideWidth}
-use Rattle.dots.specs.Inner.{shaded}
-
--- two shades make every dot of a cell
-pub two-shades :
-    (m : Machine) (attribute scan : ℕ) (dots : List Bool)
-    → map (shaded (shade m attribute scan true) (shade m attribute scan false)) dots ≡ map (shade m attribute scan) dots
-two-shades m attribute scan [] = refl
-two-shades m attribute scan (true ∷ dots) = rw (two-shades m attribute scan dots) refl
-two-shades m attribute scan (false ∷ dots) = rw (two-shades m attribute scan dots) refl
+use Rattle.dots.specs.Attributes.{isBold, xor, lit, steady, shade}
+use Rattle.dots.specs.Inner.{ForEach}
 
 -- exclusive or as the code has it
 pub xor-differ : (a b : Bool) → not (Bool·beq a b) ≡ xor a b
@@ -26,23 +20,49 @@ xor-differ true false = refl
 xor-differ false true = refl
 xor-differ false false = refl
 
--- a bit as the code tests it
-pub bit-tested : (number n : ℕ) → bitAnd (number / 2 ^ n) 1 ≡ bit n number
-bit-tested number n = and-mask (number / 2 ^ n) 1
+-- a lit dot is never less than 1 before it blinks, and no dot is more than 3
+pub steady-lit : (attribute : ℕ) → (1 ≤ steady attribute) × (steady attribute < 4)
+steady-lit attribute = either (λ (n : ℕ). (1 ≤ n) × (n < 4)) (isBold attribute) 3 2 (λ h. search needs) (λ h. search needs)
 
--- the eight dots and one more fit
-pub narrow-room : (columns132 : Bool) → 9 ≤ narrowWidth columns132
-narrow-room true = omega arith
-narrow-room false = omega arith
+pub shade-small : (m : Machine) (attribute scan : ℕ) (dot : Bool) → shade m attribute scan dot < 4
+unfolding shade
+shade-small m attribute scan dot =
+    either (λ (n : ℕ). n < 4) (lit m attribute scan dot) _ 0 (λ h. omega (arith, steady-lit attribute)) (λ h. search needs)
 
-pub wide-room : (columns132 : Bool) → 18 ≤ wideWidth columns132
-wide-room true = omega arith
-wide-room false = omega arith
+-- what is worked out of each number below another
+abbrev pub each : {A : Type 0} → (ℕ → A) → ℕ → List A
+each of zero = []
+each of (suc n) = of n ∷ each of n
 
--- a lit dot is never less than 1 before it blinks
-pub steady-lit : (attribute : ℕ) → 1 ≤ steady attribute
-steady-lit attribute = go (isBold attribute)
-  where
-    go : (b : Bool) → 1 ≤ cond b 3 2
-    go true = omega arith
-    go false = omega arith
+pub each-same : {A : Type 0} (f g : ℕ → A) (n : ℕ) → each f n ≡ each g n → (k : ℕ) → k < n → f k ≡ g k
+each-same f g zero e k h = absurd (omega arith)
+each-same f g (suc n) e k h = below-more (λ (i : ℕ). f i ≡ g i) n (each-same f g n (cc)) (cc) k (omega arith)
+
+-- what is said of each number below another stands at its place in sixteen
+pub record Stored (of : ℕ → ℕ) (all : List ℕ) (n : ℕ) : Type 0 where
+  pub same : length all ≡ 16
+  pub stored : (k : ℕ) → k < n → getD all k 0 ≡ of k
+
+pub none-stored : {of : ℕ → ℕ} (all : List ℕ) → length all ≡ 16 → Stored of all 0
+none-stored all e = record { same = e; stored = λ k h. absurd (omega arith) }
+
+pub one-stored :
+    {of : ℕ → ℕ} {all : List ℕ} {n new : ℕ} → Stored of all n → n < 16 → new ≡ of n → Stored of (set all n new) (n + 1)
+one-stored {of} {all} {n} {new} s h e =
+    record {
+      same = simp length-set (s .same);
+      stored =
+          below-more (λ (k : ℕ). getD (set all n new) k 0 ≡ of k) n
+          (λ k l. getD-set-other all n k new 0 (λ q. omega (arith, q)) ∙ s .stored k l)
+          (getD-set-same all n new 0 (omega (arith, s .same)) ∙ e);
+    }
+
+pub all-stored : {of : ℕ → ℕ} {all : List ℕ} {n : ℕ} → Stored of all n → 16 ≤ n → ForEach of all
+all-stored s h k l = s .stored k (omega arith)
+
+-- all bytes after some are stored, so nothing of what was there is left
+pub rest-stored : (into : List ℕ) (k : ℕ) (rest : List ℕ) → length into ≡ k + length rest → sets (drop k into) 0 rest ≡ rest
+rest-stored into k rest e =
+    let same : length (drop k into) ≡ length rest = simp length-drop (omega arith) in
+    sets-eq rest (drop k into) 0 (omega arith)
+    ∙ rw (drop-of-length-le (drop k into) {i = 0 + length rest} (omega arith)) (append-nil rest)

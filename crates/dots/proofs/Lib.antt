@@ -1,4 +1,3 @@
 pub mod Laws
-pub mod Drawing
-pub mod Fill
 pub mod Cell
+pub mod Words

@@ -1,14 +1,16 @@
 // The dots of a cell: a glyph byte's eight bits and the fill after them, as the cell's attribute shows
 // them. Document 01, "Dots".
-ghost use Prim.Native.Nat.{_≤_, _<_};
 ghost use mathlib.Core.Path.{_≡_};
-ghost use mathlib.Core.List.{map};
-ghost use lib.ListN.{length, take};
+ghost use mathlib.Core.Bool.{true, false};
+ghost use lib.ListN.{length};
 ghost use Rattle.dots.specs.Attributes.{lit, steady, intensity, shade};
-ghost use Rattle.dots.specs.Cell.{glyphDots, twice, cellDots, cellWidth, narrowWidth, wideWidth};
-ghost use Rattle.dots.specs.Inner.{shaded, bitShaded, eightDots};
+ghost use Rattle.dots.specs.Cell.{narrowWidth, wideWidth};
+ghost use Rattle.dots.specs.Inner.{ForEach, halfWord, turnOf, unlitOf, wordBytes, widthOf};
+ghost use Rattle.dots.specs.Inner.{narrowBytes, wideBytes, cellBytes};
 use machine::Machine;
 
+// An attribute is taken modulo 16.
+pub const ATTRIBUTES: usize = 16;
 // The scan of a glyph that underline lights.
 const UNDERLINE_SCAN: usize = 9;
 
@@ -47,46 +49,113 @@ fn shade(machine: Machine, attribute: u8, scan: usize, dot: bool) -> u8
     intensity_of(machine, attribute, is_lit(machine, attribute, scan, dot))
 }
 
-fn shade_bit(lit: u8, unlit: u8, glyph: u8, bit: usize) -> u8
-    requires { ⌜ bit < 8 ⌝ }
-    ensures { λ r. ⌜ r ≡ bitShaded lit unlit glyph bit ⌝ }
-{
-    if glyph >> bit & 1 == 1 { lit } else { unlit }
-}
-
-// The first eight dots, bit 7 first.
-fn draw_eight(lit: u8, unlit: u8, glyph: u8, into: &mut [u8])
-    requires { ⌜ 8 ≤ length (now into) ⌝ }
-    ensures { λ _. ⌜ take 8 (now (into .exit)) ≡ map (shaded lit unlit) (eightDots glyph) ⌝ }
-{
-    let mut dot = 0;
-    while dot < 8 {
-        into[dot] = shade_bit(lit, unlit, glyph, 7 - dot);
-        dot += 1;
-    }
-}
+// The four dots of each half of a glyph, its upper bit in the lowest byte: FF where a dot is lit.
+const NARROW_HALVES: [u64; 16] = [
+    0x00000000,
+    0xff000000,
+    0x00ff0000,
+    0xffff0000,
+    0x0000ff00,
+    0xff00ff00,
+    0x00ffff00,
+    0xffffff00,
+    0x000000ff,
+    0xff0000ff,
+    0x00ff00ff,
+    0xffff00ff,
+    0x0000ffff,
+    0xff00ffff,
+    0x00ffffff,
+    0xffffffff,
+];
 
 // The same, each dot twice.
-fn draw_eight_twice(lit: u8, unlit: u8, glyph: u8, into: &mut [u8])
-    requires { ⌜ 16 ≤ length (now into) ⌝ }
-    ensures { λ _. ⌜ take 16 (now (into .exit)) ≡ map (shaded lit unlit) (twice (eightDots glyph)) ⌝ }
+const WIDE_HALVES: [u64; 16] = [
+    0x0000000000000000,
+    0xffff000000000000,
+    0x0000ffff00000000,
+    0xffffffff00000000,
+    0x00000000ffff0000,
+    0xffff0000ffff0000,
+    0x0000ffffffff0000,
+    0xffffffffffff0000,
+    0x000000000000ffff,
+    0xffff00000000ffff,
+    0x0000ffff0000ffff,
+    0xffffffff0000ffff,
+    0x00000000ffffffff,
+    0xffff0000ffffffff,
+    0x0000ffffffffffff,
+    0xffffffffffffffff,
+];
+
+// The dots of each half of a glyph, as a narrow cell has them or a wide one.
+pub fn halves(wide: bool) -> [u64; 16]
+    ensures { λ r. ⌜ ForEach (halfWord wide) r ⌝ }
 {
-    let mut dot = 0;
-    while dot < 8 {
-        let shade = shade_bit(lit, unlit, glyph, 7 - dot);
-        into[2 * dot] = shade;
-        into[2 * dot + 1] = shade;
-        dot += 1;
+    if wide { WIDE_HALVES } else { NARROW_HALVES }
+}
+
+// For each attribute, by what the shade of a lit dot differs from that of an unlit one: the same in eight bytes.
+pub fn put_turns(machine: Machine, scan: usize, turns: &mut [u64; ATTRIBUTES])
+    requires { ⌜ length (now turns) ≡ 16 ⌝ }
+    ensures { λ _. ⌜ ForEach (turnOf machine scan) (now (turns .exit)) ⌝ }
+{
+    let mut attribute = 0;
+    while attribute < ATTRIBUTES {
+        let lit = shade(machine, attribute as u8, scan, true);
+        let unlit = shade(machine, attribute as u8, scan, false);
+        turns[attribute] = (lit ^ unlit) as u64 * 0x0101010101010101;
+        attribute += 1;
     }
 }
 
-// After the eight dots bit 0 again, once at 132 columns, twice at 80.
-fn draw_narrow(columns132: bool, lit: u8, unlit: u8, glyph: u8, into: &mut [u8])
-    requires { ⌜ length (now into) ≡ narrowWidth columns132 ⌝ }
-    ensures { λ _. ⌜ now (into .exit) ≡ map (shaded lit unlit) (glyphDots columns132 glyph) ⌝ }
+// For each attribute, eight unlit dots.
+pub fn put_unlit(machine: Machine, scan: usize, words: &mut [u64; ATTRIBUTES])
+    requires { ⌜ length (now words) ≡ 16 ⌝ }
+    ensures { λ _. ⌜ ForEach (unlitOf machine scan) (now (words .exit)) ⌝ }
 {
-    draw_eight(lit, unlit, glyph, into);
-    let fill = shade_bit(lit, unlit, glyph, 0);
+    let mut attribute = 0;
+    while attribute < ATTRIBUTES {
+        words[attribute] = shade(machine, attribute as u8, scan, false) as u64 * 0x0101010101010101;
+        attribute += 1;
+    }
+}
+
+// Puts the eight bytes of a word, the lowest first. They are written out one by one, of which a compiler makes one
+// store; of a loop it does not.
+fn put_word(word: u64, into: &mut [u8])
+    requires { ⌜ length (now into) ≡ 8 ⌝ }
+    ensures { λ _. ⌜ now (into .exit) ≡ wordBytes word ⌝ }
+{
+    into[0] = (word % 256) as u8;
+    into[1] = (word / 0x100 % 256) as u8;
+    into[2] = (word / 0x10000 % 256) as u8;
+    into[3] = (word / 0x1000000 % 256) as u8;
+    into[4] = (word / 0x100000000 % 256) as u8;
+    into[5] = (word / 0x10000000000 % 256) as u8;
+    into[6] = (word / 0x1000000000000 % 256) as u8;
+    into[7] = (word / 0x100000000000000 % 256) as u8;
+}
+
+// Eight dots, and after them bit 0 again, once at 132 columns, twice at 80.
+fn draw_narrow(
+    columns132: bool,
+    halves: &[u64; 16],
+    turn: u64,
+    unlit: u64,
+    glyph: u8,
+    into: &mut [u8],
+)
+    requires { ⌜ ForEach (halfWord false) (now halves) ⌝ }
+    requires { ⌜ length (now into) ≡ narrowWidth columns132 ⌝ }
+    ensures { λ _. ⌜ now (into .exit) ≡ narrowBytes columns132 turn unlit glyph ⌝ }
+{
+    let upper = halves[(glyph / 16) as usize];
+    let lower = halves[(glyph % 16) as usize];
+    let eight = (upper | lower << 32) & turn ^ unlit;
+    put_word(eight, &mut into[0..8]);
+    let fill = (eight / 0x100000000000000 % 256) as u8;
     into[8] = fill;
     if columns132 {
         return;
@@ -94,12 +163,24 @@ fn draw_narrow(columns132: bool, lit: u8, unlit: u8, glyph: u8, into: &mut [u8])
     into[9] = fill;
 }
 
-fn draw_wide(columns132: bool, lit: u8, unlit: u8, glyph: u8, into: &mut [u8])
+// The same, each dot twice.
+fn draw_wide(
+    columns132: bool,
+    halves: &[u64; 16],
+    turn: u64,
+    unlit: u64,
+    glyph: u8,
+    into: &mut [u8],
+)
+    requires { ⌜ ForEach (halfWord true) (now halves) ⌝ }
     requires { ⌜ length (now into) ≡ wideWidth columns132 ⌝ }
-    ensures { λ _. ⌜ now (into .exit) ≡ map (shaded lit unlit) (twice (glyphDots columns132 glyph)) ⌝ }
+    ensures { λ _. ⌜ now (into .exit) ≡ wideBytes columns132 turn unlit glyph ⌝ }
 {
-    draw_eight_twice(lit, unlit, glyph, into);
-    let fill = shade_bit(lit, unlit, glyph, 0);
+    let four = halves[(glyph / 16) as usize] & turn ^ unlit;
+    let more = halves[(glyph % 16) as usize] & turn ^ unlit;
+    put_word(four, &mut into[0..8]);
+    put_word(more, &mut into[8..16]);
+    let fill = (more / 0x100000000000000 % 256) as u8;
     into[16] = fill;
     into[17] = fill;
     if columns132 {
@@ -110,26 +191,32 @@ fn draw_wide(columns132: bool, lit: u8, unlit: u8, glyph: u8, into: &mut [u8])
 }
 
 // How many dots a cell has.
-pub fn cell_width(machine: Machine, kind: u8) -> usize
-    ensures { λ r. ⌜ r ≡ cellWidth (machine .columns132) kind ⌝ }
+pub fn cell_width(columns132: bool, wide: bool) -> usize
+    ensures { λ r. ⌜ r ≡ widthOf columns132 wide ⌝ }
 {
-    let wide = chain::is_wide(kind);
-    if machine.columns132 {
+    if columns132 {
         return if wide { 18 } else { 9 };
     }
     if wide { 20 } else { 10 }
 }
 
-// A cell of a row of a kind, with its attribute, at a scan of the glyph whose byte is given.
-pub fn draw_cell(machine: Machine, kind: u8, attribute: u8, scan: usize, glyph: u8, into: &mut [u8])
-    requires { ⌜ length (now into) ≡ cellWidth (machine .columns132) kind ⌝ }
-    ensures { λ _. ⌜ now (into .exit) ≡ cellDots machine kind attribute scan glyph ⌝ }
+// A cell of a glyph, whose unlit dots are those of a word, and whose lit ones differ from them by `turn`.
+pub fn draw_cell(
+    columns132: bool,
+    wide: bool,
+    halves: &[u64; 16],
+    turn: u64,
+    unlit: u64,
+    glyph: u8,
+    into: &mut [u8],
+)
+    requires { ⌜ ForEach (halfWord wide) (now halves) ⌝ }
+    requires { ⌜ length (now into) ≡ widthOf columns132 wide ⌝ }
+    ensures { λ _. ⌜ now (into .exit) ≡ cellBytes columns132 wide turn unlit glyph ⌝ }
 {
-    let lit = shade(machine, attribute, scan, true);
-    let unlit = shade(machine, attribute, scan, false);
-    if chain::is_wide(kind) {
-        draw_wide(machine.columns132, lit, unlit, glyph, into);
+    if wide {
+        draw_wide(columns132, halves, turn, unlit, glyph, into);
     } else {
-        draw_narrow(machine.columns132, lit, unlit, glyph, into);
+        draw_narrow(columns132, halves, turn, unlit, glyph, into);
     }
 }

@@ -2,7 +2,7 @@
 use Prim.Native.Nat.{ℕ}
 use mathlib.Core.Path.{_≡_, refl}
 use mathlib.Core.List.{List, [], _∷_, _++_}
-use mathlib.Core.Bool.{Bool, true, false, cond, _&&_, false≢true}
+use mathlib.Core.Bool.{Bool, true, false, cond, not, _||_, false≢true}
 use native.Mathlib.Nat.{suc-inj}
 use native.Mathlib.Omega.{arith}
 use lib.ListN.{length}
@@ -26,22 +26,17 @@ same-true (x ∷ xs) (y ∷ ys) e = go (eqb x y) refl e (same-true xs ys)
     go true h k later = rw (eqb-true x y h, later k)
     go false h k later = absurd (false≢true k)
 
--- a byte more on each side
-pub same-more :
-    (xs ys : List ℕ) (a b : ℕ) → length xs ≡ length ys
-    → sameBytes (xs ++ (a ∷ [])) (ys ++ (b ∷ [])) ≡ (sameBytes xs ys && eqb a b)
+-- bytes that come after others as many differ, or those do
+pub differ :
+    (xs ys v w : List ℕ) → length xs ≡ length ys
+    → not (sameBytes (xs ++ v) (ys ++ w)) ≡ (not (sameBytes xs ys) || not (sameBytes v w))
 unfolding sameBytes
-same-more [] [] a b e = go (eqb a b)
+differ [] [] v w e = refl
+differ [] (y ∷ ys) v w e = absurd (omega arith)
+differ (x ∷ xs) [] v w e = absurd (omega arith)
+differ (x ∷ xs) (y ∷ ys) v w e =
+    go (eqb x y) (sameBytes (xs ++ v) (ys ++ w)) (sameBytes xs ys) (not (sameBytes v w)) (differ xs ys v w (suc-inj e))
   where
-    go : (t : Bool) → cond t true false ≡ t
-    go true = refl
-    go false = refl
-same-more [] (y ∷ ys) a b e = absurd (omega arith)
-same-more (x ∷ xs) [] a b e = absurd (omega arith)
-same-more (x ∷ xs) (y ∷ ys) a b e = go (eqb x y) (same-more xs ys a b (suc-inj e))
-  where
-    go :
-        (t : Bool) → sameBytes (xs ++ (a ∷ [])) (ys ++ (b ∷ [])) ≡ (sameBytes xs ys && eqb a b)
-        → cond t (sameBytes (xs ++ (a ∷ [])) (ys ++ (b ∷ []))) false ≡ (cond t (sameBytes xs ys) false && eqb a b)
-    go true later = later
-    go false later = refl
+    go : (t all a b : Bool) → not all ≡ (not a || b) → not (cond t all false) ≡ (not (cond t a false) || b)
+    go true all a b later = later
+    go false all a b later = refl

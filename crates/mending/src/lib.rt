@@ -30,16 +30,18 @@ struct RowMended {
     next: Ahead,
 }
 
-// Puts what was drawn in the place of what was kept, and says whether they differed.
+// Puts what was drawn in the place of what was kept, and says whether they differed. The loop has no way out but its
+// end, so that the bytes can be done together.
 fn replace(kept: &mut [u8], drawn: &[u8]) -> bool
-    requires { ⌜ length (now kept) ≡ recordBytes ⌝ }
-    requires { ⌜ length (now drawn) ≡ recordBytes ⌝ }
+    requires { ⌜ length (now drawn) ≡ length (now kept) ⌝ }
     ensures { λ r. ⌜ r ≡ not (sameBytes (now (kept .entry)) (now (drawn .entry))) ⌝ }
     ensures { λ _. ⌜ now (kept .exit) ≡ now (drawn .entry) ⌝ }
 {
+    let bytes = kept.len();
+    let drawn = &drawn[0..bytes];
     let mut changed = false;
     let mut at = 0;
-    while at < records::RECORD_BYTES {
+    while at < bytes {
         let byte = drawn[at];
         changed = changed | (kept[at] != byte);
         kept[at] = byte;
@@ -48,7 +50,9 @@ fn replace(kept: &mut [u8], drawn: &[u8]) -> bool
     changed
 }
 
-// The row that lies ahead is drawn apart from what is kept of it: `drawn` is room for that, of any bytes.
+// The row that lies ahead is drawn apart from what is kept of it: `drawn` is room for that, of any bytes. The header
+// and the pairs are compared apart, so that bytes just written are read again in the pieces in which they were written:
+// a processor waits for those that it has to put together.
 fn mend_row(
     columns: usize,
     screen: &[u8],
@@ -68,8 +72,19 @@ fn mend_row(
 {
     let walked = records::draw_ahead(columns, screen, attribute, ahead, drawn);
     let next = walked.next;
-    let changed = replace(kept, drawn);
-    RowMended { changed, next }
+    let drawn = &drawn[..];
+    let head = replace(
+        &mut kept[0..records::HEAD_BYTES],
+        &drawn[0..records::HEAD_BYTES],
+    );
+    let pairs = replace(
+        &mut kept[records::HEAD_BYTES..records::RECORD_BYTES],
+        &drawn[records::HEAD_BYTES..records::RECORD_BYTES],
+    );
+    RowMended {
+        changed: head | pairs,
+        next,
+    }
 }
 
 // Mends the picture from a row on, and marks the rows whose record changed.

@@ -1,4 +1,3 @@
-pub mod Parts
 pub mod Laws
 pub mod Records
 pub mod Wild

@@ -14,7 +14,7 @@ use Rattle.lent.specs.Lengths.{pictureBytes}
 use Rattle.chain.specs.Chain.{rows}
 use Rattle.records.specs.Record.{recordBytes}
 use Rattle.picture.specs.Picture.{inOrder, recordIn}
-use Rattle.picture.proofs.Parts.{part-lent, part-back, part-put, part-left}
+use Rattle.lent.proofs.Parts.{part-lent, part-back, part-put, part-left}
 
 -- the same records one after the other
 pub same-records :

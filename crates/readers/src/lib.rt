@@ -7,7 +7,6 @@ ghost use lib.ListN.{length};
 ghost use Rattle.lent.specs.Lengths.{screenBytes, attributeBytes};
 ghost use Rattle.chain.specs.Chain.{chain, places};
 ghost use Rattle.chain.specs.Reading.{from};
-ghost use Rattle.chain.specs.Inner.{Placed};
 ghost use Rattle.readers.specs.Readers.{among, readsByte};
 ghost use Rattle.readers.specs.Inner.{InMemory, onScreen, passed, Found};
 use chain::Ahead;
@@ -73,7 +72,7 @@ fn pass_row(columns: usize, screen: &[u8], attribute: &[u8], head: Head, seen: S
     ensures { λ r. ⌜ r
         ≡ passed (chain columns (now (screen .entry)) (now (attribute .entry))) seen (Ahead.Row head) ⌝ }
 {
-    let start = head.start;
+    let start = head.start as usize;
     let capacity = chain::capacity(columns, head.kind);
     let Terminator::After(cells) = chain::find_terminator(screen, start, capacity) else {
         return Passed {
@@ -84,22 +83,6 @@ fn pass_row(columns: usize, screen: &[u8], attribute: &[u8], head: Head, seen: S
     Passed {
         reads: whole_reads(seen, start, cells),
         next: Ahead::Row(chain::link(screen, attribute, start + cells)),
-    }
-}
-
-fn pass(columns: usize, screen: &[u8], attribute: &[u8], ahead: Ahead, seen: Seen) -> Passed
-    requires { ⌜ length (now screen) ≡ screenBytes ⌝ }
-    requires { ⌜ length (now attribute) ≡ attributeBytes ⌝ }
-    requires { ⌜ (columns + 3 ≤ places) × Placed ahead ⌝ }
-    requires { ⌜ InMemory seen ⌝ }
-    ensures { λ r. ⌜ r ≡ passed (chain columns (now (screen .entry)) (now (attribute .entry))) seen ahead ⌝ }
-{
-    match ahead {
-        Ahead::Row(head) => pass_row(columns, screen, attribute, head, seen),
-        Ahead::Dark => Passed {
-            reads: false,
-            next: ahead,
-        },
     }
 }
 
@@ -132,7 +115,14 @@ pub fn first_reader(columns: usize, screen: &[u8], attribute: &[u8], seen: Seen)
     let mut ahead = Ahead::Row(Head::first());
     let mut row = 0;
     while row < chain::ROWS {
-        let passed = pass(columns, screen, attribute, ahead, seen);
+        // After a torn row all rows are dark, and a dark row reads nothing.
+        let Ahead::Row(head) = ahead else {
+            return Reader {
+                row: chain::ROWS,
+                ahead,
+            };
+        };
+        let passed = pass_row(columns, screen, attribute, head, seen);
         if passed.reads {
             return Reader { row, ahead };
         }

@@ -1,92 +1,153 @@
--- A row's cells are written while its terminator is searched for, and the pairs after them: what holds after so many,
--- how it begins, goes on and ends.
-use Prim.Native.Nat.{ℕ, suc, _+_, _-_, _*_, _%_, _≤_, _<_}
-use mathlib.Core.Path.{_≡_, refl, sym, _∙_, ap, subst}
+-- The pairs of a row's cells are written in two parts, and then the pairs after them: what holds after so many, how it
+-- begins, goes on and ends.
+use Prim.Native.Nat.{ℕ, zero, suc, _+_, _-_, _*_, _%_, _≤_, _<_, min}
+use mathlib.Core.Path.{_≡_, refl, sym, _∙_, ap}
 use mathlib.Core.List.{List, [], _∷_, _++_, append-assoc, append-nil}
+use native.Mathlib.Nat.{add-zero, add-suc}
 use native.Mathlib.Numerals.{add-one}
 use native.Mathlib.Omega.{arith}
-use lib.ListN.{length, take, set, length-set, length-drop}
-use lib.Seq.{take-all}
-use Rattle.chain.specs.Chain.{byteAt, firstFF}
-use Rattle.chain.specs.declared.Terminator.the-variants.{After, Missing}
-use Rattle.chain.proofs.Laws.{search-ends, search-goes-on, search-fails}
+use lib.ListN.{length, getD, take, drop, set, length-set, length-drop, length-append}
+use lib.Seq.{take-all, take-at}
+use borrow.Rule.Slice.PartMut.{midOf, putMid, mid-len, same-len-mid}
+use Rattle.lent.proofs.Parts.{part-lent, part-put}
+use Rattle.chain.specs.Chain.{places}
+use Rattle.chain.proofs.Searching.{Part, one-is, two-is, one-long, two-long}
 use Rattle.records.specs.Record.{recordBytes, headBytes, recordPairs, cellPairs, fillPairs}
-use Rattle.records.specs.Inner.{pairsOf, Passed, Found}
-use Rattle.records.proofs.Laws.{pair-stored}
+use Rattle.records.specs.Inner.{pairsOf, pairsIn}
+use Rattle.records.proofs.Laws.{two-stored, pair-stored}
 
-pub none-passed :
-    {screen attribute : List ℕ} {start capacity : ℕ} {drawn : List ℕ} → length drawn ≡ recordBytes
-    → Passed screen attribute start capacity drawn 0
-unfolding cellPairs
-none-passed {screen} {start = start} same =
-    record {
-      within = omega arith;
-      same = same;
-      search-left = ap (firstFF screen start 0) (omega arith);
-      written = refl;
-    }
+-- the pairs of cells next to each other, written up to `cell`
+pub record Copied (characters attributes pairs : List ℕ) (cell : ℕ) : Type 0 where
+  pub within : cell ≤ length characters
+  pub same : length pairs ≡ 2 * length characters
+  pub written : take (2 * cell) pairs ≡ pairsIn characters attributes cell
 
--- the next byte is read
-module _
-    {screen attribute : List ℕ}
-    {start capacity : ℕ}
-    {drawn : List ℕ}
-    {cell byte : ℕ}
-    (p : Passed screen attribute start capacity drawn cell)
-    (read : byte ≡ byteAt screen (start + cell)) where
-  pub one-passed :
-      {beside : ℕ} → beside ≡ byteAt attribute (start + cell) → capacity ≤ recordPairs → cell < capacity
-      → (byte ≡ 0xFF → ⊥)
-      → let at = headBytes + 2 * cell in
-      Passed screen attribute start capacity (set (set drawn at byte) (at + 1) (beside % 16)) (cell + 1)
-  unfolding cellPairs
-  one-passed {beside} seen fits more no-end =
-      let room : headBytes + 2 * cell + 1 < length drawn = omega (arith, p .same) in
+pub none-copied :
+    (characters attributes pairs : List ℕ) → length pairs ≡ 2 * length characters
+    → Copied characters attributes pairs 0
+unfolding pairsIn
+none-copied characters attributes pairs same = record { within = omega arith; same = same; written = refl }
+
+module _ {characters attributes pairs : List ℕ} {cell : ℕ} (p : Copied characters attributes pairs cell) where
+  pub one-copied :
+      cell < length characters
+      → Copied characters attributes
+      (set (set pairs (2 * cell) (getD characters cell 0)) (2 * cell + 1) (getD attributes cell 0 % 16)) (cell + 1)
+  unfolding pairsIn
+  one-copied more =
+      let room : 2 * cell + 1 < length pairs = omega (arith, p .same) in
       record {
         within = omega arith;
         same = simp length-set (p .same);
-        search-left = p .search-left ∙ search-goes-on screen start (capacity + 1) cell read (omega arith) no-end;
-        written = rw (pair-stored drawn cell byte (beside % 16) room, p .written, add-one cell, read, seen);
-      }
-
-  pub found : byte ≡ 0xFF → Found screen attribute start capacity drawn (After cell)
-  found end =
-      let more : cell < capacity + 1 = omega (arith, p .within) in
-      record {
-        answer = sym (p .search-left ∙ search-ends screen start (capacity + 1) cell read more end);
-        written = p .written;
-      }
-
-  pub not-found : capacity ≤ cell → (byte ≡ 0xFF → ⊥) → Found screen attribute start capacity drawn Missing
-  not-found all no-end =
-      let last : cell ≡ capacity = omega (arith, p .within) in
-      let on = search-goes-on screen start (capacity + 1) cell read (omega arith) no-end in
-      record {
-        answer = sym (p .search-left ∙ on ∙ search-fails screen start (capacity + 1) (cell + 1) (omega arith));
         written =
-            subst (λ (n : ℕ). take (2 * n) (pairsOf drawn) ≡ cellPairs screen attribute start n) last (p .written);
+            rw (
+              two-stored pairs cell (getD characters cell 0) (getD attributes cell 0 % 16) room,
+              p .written,
+              add-one cell,
+            );
       }
 
--- the next two bytes are read, and neither is FF
-pub two-passed :
-    {screen attribute : List ℕ} {start capacity : ℕ} {drawn : List ℕ} {cell first second beside other : ℕ}
-    → Passed screen attribute start capacity drawn cell → capacity ≤ recordPairs → cell + 2 ≤ capacity
-    → first ≡ byteAt screen (start + cell) → second ≡ byteAt screen (start + cell + 1)
-    → beside ≡ byteAt attribute (start + cell) → other ≡ byteAt attribute (start + cell + 1)
-    → (first ≡ 0xFF → ⊥) → (second ≡ 0xFF → ⊥)
-    → let at = headBytes + 2 * cell in
-    let once = set (set drawn at first) (at + 1) (beside % 16) in
-    Passed screen attribute start capacity (set (set once (at + 2) second) (at + 3) (other % 16)) (cell + 2)
-two-passed {screen} {attribute} {start} {capacity} {drawn} {cell} {first} {second} {beside} {other} p fits more read read′ seen seen′ no-end no-end′ =
-    let on : (memory : List ℕ) → byteAt memory (start + cell + 1) ≡ byteAt memory (start + (cell + 1)) =
-    λ (memory : List ℕ). ap (byteAt memory) (omega arith) in
-    let one = one-passed p read seen fits (omega arith) no-end in
-    let two = one-passed one (read′ ∙ on screen) (seen′ ∙ on attribute) fits (omega arith) no-end′ in
-    let once = set (set drawn (headBytes + 2 * cell) first) (headBytes + 2 * cell + 1) (beside % 16) in
-    let at : headBytes + 2 * (cell + 1) ≡ headBytes + 2 * cell + 2 = omega arith in
-    let next : headBytes + 2 * cell + 2 + 1 ≡ headBytes + 2 * cell + 3 = omega arith in
-    let cells : cell + 1 + 1 ≡ cell + 2 = omega arith in
-    rw (at, next, cells) at two
+  pub all-copied : length characters ≤ cell → pairs ≡ pairsIn characters attributes (length characters)
+  all-copied all =
+      let last : cell ≡ length characters = omega (arith, p .within) in
+      sym (take-all (2 * cell) pairs (omega (arith, p .same))) ∙ p .written ∙ ap (pairsIn characters attributes) last
+
+-- the pairs of a part of the two memories are those of the cells there
+module _
+    (screen attribute : List ℕ)
+    (start cells : ℕ)
+    (characters attributes : List ℕ)
+    (s : Part screen start cells characters)
+    (a : Part attribute start cells attributes)
+    (same : length attributes ≡ length characters) where
+  pub part-pairs :
+      (n : ℕ) → n ≤ length characters
+      → cellPairs screen attribute start (cells + n)
+      ≡ cellPairs screen attribute start cells ++ pairsIn characters attributes n
+  unfolding cellPairs pairsIn
+  part-pairs zero few = rw (add-zero cells) (sym (append-nil (cellPairs screen attribute start cells)))
+  part-pairs (suc n) few =
+      rw (add-suc cells n, part-pairs n (omega arith), ← s n (omega arith), ← a n (omega (arith, same)))
+      (append-assoc (cellPairs screen attribute start cells) (pairsIn characters attributes n) (getD characters n 0 ∷ getD attributes n 0 % 16 ∷ []))
+
+pairs-long : (characters attributes : List ℕ) (n : ℕ) → length (pairsIn characters attributes n) ≡ 2 * n
+unfolding pairsIn
+pairs-long characters attributes zero = refl
+pairs-long characters attributes (suc n) =
+    simp length-append (omega (arith, pairs-long characters attributes n))
+
+-- the pairs of a row's cells in their two parts: of `n` cells up to the end of memory, and of the others from place 0 on
+pub record Halved (screen attribute pairs : List ℕ) (start cells n : ℕ) : Type 0 where
+  pub s : length screen ≡ places
+  pub a : length attribute ≡ places
+  pub under : start < places
+  pub few : cells ≤ recordPairs
+  pub same : length pairs ≡ 2 * recordPairs
+  pub straight-on : n ≡ min cells (places - start)
+
+module _ {screen attribute pairs : List ℕ} {start cells n : ℕ} (h : Halved screen attribute pairs start cells n) where
+  abbrev ones : List ℕ → List ℕ
+  ones memory = midOf start (start + n - start) memory
+
+  abbrev twos : List ℕ → List ℕ
+  twos memory = midOf 0 (cells - n - 0) memory
+
+  abbrev partly : List ℕ → List ℕ
+  partly new = putMid 0 (2 * n - 0) pairs new
+
+  abbrev wholly : (new more : List ℕ) → List ℕ
+  wholly new more = putMid (2 * n) (2 * n + 2 * (cells - n) - 2 * n) (partly new) more
+
+  fits : cells ≤ places
+  fits = omega (arith, h .few)
+
+  ones-long : (memory : List ℕ) → length memory ≡ places → length (ones memory) ≡ n
+  ones-long memory long = one-long memory start cells n long (h .under) fits (h .straight-on)
+
+  pub twos-long : (memory : List ℕ) → length memory ≡ places → length (twos memory) ≡ cells - n
+  twos-long memory long = two-long memory start cells n long (h .under) fits (h .straight-on)
+
+  module _ {new : List ℕ} (is : new ≡ pairsIn (ones screen) (ones attribute) (length (ones screen))) where
+    new-long : length new ≡ 2 * n
+    new-long =
+        ap length is ∙ pairs-long (ones screen) (ones attribute) (length (ones screen)) ∙ ap (λ (k : ℕ). 2 * k) (ones-long screen (h .s))
+
+    partly-long : length (partly new) ≡ 2 * recordPairs
+    partly-long =
+        let lent = mid-len 0 (2 * n) pairs (omega (arith, h .same, h .straight-on)) in
+        same-len-mid 0 (2 * n - 0) pairs new (new-long ∙ omega (arith, lent)) ∙ h .same
+
+    room : 2 * n + 2 * (cells - n) ≤ length (partly new)
+    room = omega (arith, partly-long, h .straight-on)
+
+    pub room-left : length (midOf (2 * n) (2 * n + 2 * (cells - n) - 2 * n) (partly new)) ≡ 2 * length (twos screen)
+    room-left =
+        part-lent (partly new) (2 * n) (2 * (cells - n)) room ∙ ap (λ (k : ℕ). 2 * k) (sym (twos-long screen (h .s)))
+
+    pub cells-put :
+        {more : List ℕ} → more ≡ pairsIn (twos screen) (twos attribute) (length (twos screen))
+        → take (2 * cells) (wholly new more) ≡ cellPairs screen attribute start cells
+    unfolding cellPairs
+    cells-put {more} more-is =
+        let more-long =
+        ap length more-is ∙ pairs-long (twos screen) (twos attribute) (length (twos screen))
+        ∙ ap (λ (k : ℕ). 2 * k) (twos-long screen (h .s)) in
+        let both : 2 * cells ≡ 2 * n + 2 * (cells - n) = omega (arith, h .straight-on) in
+        let first =
+        part-pairs screen attribute start 0 (ones screen) (ones attribute) (one-is screen start cells n (h .s) (h .under) fits (h .straight-on))
+        (one-is attribute start cells n (h .a) (h .under) fits (h .straight-on)) (ones-long attribute (h .a) ∙ sym (ones-long screen (h .s)))
+        (length (ones screen)) (omega arith) in
+        let second =
+        part-pairs screen attribute start n (twos screen) (twos attribute) (two-is screen start cells n (h .s) (h .under) fits (h .straight-on))
+        (two-is attribute start cells n (h .a) (h .under) fits (h .straight-on)) (twos-long attribute (h .a) ∙ sym (twos-long screen (h .s)))
+        (length (twos screen)) (omega arith) in
+        let all-first : 0 + length (ones screen) ≡ n = omega (arith, ones-long screen (h .s)) in
+        let all : n + length (twos screen) ≡ cells = omega (arith, twos-long screen (h .s), h .straight-on) in
+        ap (λ (k : ℕ). take k (wholly new more)) both
+        ∙ part-put (partly new) (2 * n) (2 * (cells - n)) room more more-long
+        ∙ ap (λ (l : List ℕ). l ++ more) (take-at new (drop (2 * n - 0) pairs) (2 * n) new-long ∙ is ∙ sym first ∙ ap (cellPairs screen attribute start) all-first)
+        ∙ ap (λ (l : List ℕ). cellPairs screen attribute start n ++ l) more-is ∙ sym second
+        ∙ ap (cellPairs screen attribute start) all
 
 -- the pairs after the cells, written up to `pair`
 pub record Filled (before : List ℕ) (cells : ℕ) (drawn : List ℕ) (pair : ℕ) : Type 0 where

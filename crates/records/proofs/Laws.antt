@@ -1,11 +1,12 @@
 -- Laws about a record's pairs and header.
-use Prim.Native.Nat.{ℕ, suc, _+_, _*_, _≤_, _<_}
-use mathlib.Core.Path.{_≡_, refl}
-use mathlib.Core.List.{List, [], _∷_, _++_, append-assoc}
+use Prim.Native.Nat.{ℕ, suc, _+_, _-_, _*_, _≤_, _<_}
+use mathlib.Core.Path.{_≡_, refl, ap, _∙_}
+use mathlib.Core.List.{List, [], _∷_, _++_, append-assoc, append-nil}
 use native.Mathlib.Omega.{arith}
-use lib.ListN.{length, take, set, length-set, length-drop}
-use lib.Seq.{take-suc-set, drop-set-add}
-use Rattle.records.specs.Record.{headBytes}
+use lib.ListN.{length, take, drop, set, length-set, length-drop, drop-of-length-le}
+use lib.Seq.{take-suc-set, drop-set-add, drop-at, length-take-le}
+use borrow.Rule.Slice.PartMut.{putMid}
+use Rattle.records.specs.Record.{recordBytes, headBytes}
 use Rattle.records.specs.Inner.{pairsOf}
 
 -- two bytes are stored after the pairs of bytes before them
@@ -47,3 +48,13 @@ head-stored (w ∷ []) a b c d h = absurd (omega arith)
 head-stored (w ∷ x ∷ []) a b c d h = absurd (omega arith)
 head-stored (w ∷ x ∷ y ∷ []) a b c d h = absurd (omega arith)
 head-stored (w ∷ x ∷ y ∷ z ∷ l) a b c d h = refl
+
+-- the pairs that were lent and came back
+pub pairs-back :
+    (bytes new : List ℕ) → length bytes ≡ recordBytes
+    → pairsOf (putMid headBytes (recordBytes - headBytes) bytes new) ≡ new
+pairs-back bytes new same =
+    let none = drop-of-length-le (pairsOf bytes) {i = recordBytes - headBytes} (simp length-drop (omega (arith, same))) in
+    drop-at (take headBytes bytes) (new ++ drop (recordBytes - headBytes) (pairsOf bytes)) headBytes
+    (length-take-le headBytes bytes (omega (arith, same)))
+    ∙ ap (λ (rest : List ℕ). new ++ rest) none ∙ append-nil new

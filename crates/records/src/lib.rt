@@ -7,8 +7,8 @@ ghost use lib.ListN.{length, take};
 ghost use Rattle.lent.specs.Lengths.{screenBytes, attributeBytes};
 ghost use Rattle.chain.specs.Chain.{chain, places};
 ghost use Rattle.chain.specs.Inner.{Placed};
-ghost use Rattle.records.specs.Record.{recordBytes, headBytes, recordPairs, fillPairs, header};
-ghost use Rattle.records.specs.Inner.{pairsOf, Passed, Found, finished, wholeWalked, walked, drawnAhead};
+ghost use Rattle.records.specs.Record.{recordBytes, headBytes, recordPairs, cellPairs, fillPairs, header};
+ghost use Rattle.records.specs.Inner.{pairsOf, pairsIn, finished, rowRead, rowDrawn, walked, drawnAhead};
 use chain::Ahead;
 use chain::Head;
 use chain::Terminator;
@@ -37,73 +37,56 @@ pub struct Walked {
     pub next: Ahead,
 }
 
-// Passes cells of a row, two at a time, while neither is its terminator and both are ahead of the end of
-// memory: most rows end ahead of it, and for their places there is no modulo.
-fn draw_straight(
-    screen: &[u8],
-    attribute: &[u8],
-    start: usize,
-    capacity: usize,
-    into: &mut [u8],
-) -> usize
-    requires { ⌜ length (now screen) ≡ screenBytes ⌝ }
-    requires { ⌜ length (now attribute) ≡ attributeBytes ⌝ }
-    requires { ⌜ (start < places) × (capacity ≤ recordPairs) ⌝ }
-    requires { ⌜ length (now into) ≡ recordBytes ⌝ }
-    ensures { λ r. ⌜ Passed (now (screen .entry)) (now (attribute .entry)) start capacity (now (into .exit)) r ⌝ }
-{
-    let room = chain::before_the_end(start, capacity);
-    let mut cell = 0;
-    while cell + 2 <= room {
-        let place = start + cell;
-        let first = screen[place];
-        if first == chain::TERMINATOR {
-            return cell;
-        }
-        let second = screen[place + 1];
-        if second == chain::TERMINATOR {
-            return cell;
-        }
-        let at = HEAD_BYTES + 2 * cell;
-        into[at] = first;
-        into[at + 1] = attribute[place] % 16;
-        into[at + 2] = second;
-        into[at + 3] = attribute[place + 1] % 16;
-        cell += 2;
-    }
-    cell
+// A row that was read: how many cells it shows, its count, and what its walk comes to.
+struct RowRead {
+    cells: usize,
+    count: u8,
+    walked: Walked,
 }
 
-// Finds the terminator. The search writes the pair of each byte that it passes, so that there is no second
-// walk over the cells.
-fn draw_to_terminator(
-    screen: &[u8],
-    attribute: &[u8],
-    start: usize,
-    capacity: usize,
-    into: &mut [u8],
-) -> Terminator
-    requires { ⌜ length (now screen) ≡ screenBytes ⌝ }
-    requires { ⌜ length (now attribute) ≡ attributeBytes ⌝ }
-    requires { ⌜ (start < places) × (capacity ≤ recordPairs) ⌝ }
-    requires { ⌜ length (now into) ≡ recordBytes ⌝ }
-    ensures { λ r. ⌜ Found (now (screen .entry)) (now (attribute .entry)) start capacity (now (into .exit)) r ⌝ }
+// The pairs of cells that stand next to each other in memory. The loop has no way out but its end, and the parts have
+// the length that it goes to, so that the cells can be copied together.
+fn put_cells(characters: &[u8], attributes: &[u8], pairs: &mut [u8])
+    requires { ⌜ length (now attributes) ≡ length (now characters) ⌝ }
+    requires { ⌜ length (now pairs) ≡ 2 * length (now characters) ⌝ }
+    requires { ⌜ length (now characters) ≤ places ⌝ }
+    ensures { λ _. ⌜ now (pairs .exit)
+        ≡ pairsIn (now (characters .entry)) (now (attributes .entry)) (length (now (characters .entry))) ⌝ }
 {
-    let mut cell = draw_straight(screen, attribute, start, capacity, into);
-    while cell < capacity {
-        let character = chain::byte_at(screen, start + cell);
-        if character == chain::TERMINATOR {
-            return Terminator::After(cell);
-        }
-        let at = HEAD_BYTES + 2 * cell;
-        into[at] = character;
-        into[at + 1] = chain::byte_at(attribute, start + cell) % 16;
+    let cells = characters.len();
+    let attributes = &attributes[0..cells];
+    let pairs = &mut pairs[0..2 * cells];
+    let mut cell = 0;
+    while cell < cells {
+        pairs[2 * cell] = characters[cell];
+        pairs[2 * cell + 1] = attributes[cell] % 16;
         cell += 1;
     }
-    if chain::byte_at(screen, start + cell) == chain::TERMINATOR {
-        return Terminator::After(cell);
-    }
-    Terminator::Missing
+}
+
+// The pairs of a row's cells: of those up to the end of memory, and then of those from place 0 on.
+fn draw_cells(screen: &[u8], attribute: &[u8], start: usize, cells: usize, pairs: &mut [u8])
+    requires { ⌜ length (now screen) ≡ screenBytes ⌝ }
+    requires { ⌜ length (now attribute) ≡ attributeBytes ⌝ }
+    requires { ⌜ (start < places) × (cells ≤ recordPairs) ⌝ }
+    requires { ⌜ length (now pairs) ≡ 2 * recordPairs ⌝ }
+    ensures { λ _. ⌜ take (2 * cells) (now (pairs .exit))
+        ≡ cellPairs (now (screen .entry)) (now (attribute .entry)) start cells ⌝ }
+{
+    let straight = chain::before_the_end(start, cells);
+    let end = start + straight;
+    let half = 2 * straight;
+    put_cells(
+        &screen[start..end],
+        &attribute[start..end],
+        &mut pairs[0..half],
+    );
+    let rest = cells - straight;
+    put_cells(
+        &screen[0..rest],
+        &attribute[0..rest],
+        &mut pairs[half..half + 2 * rest],
+    );
 }
 
 // The pairs after the last cell.
@@ -113,6 +96,7 @@ fn fill(into: &mut [u8], cells: usize)
     ensures { λ _. ⌜ pairsOf (now (into .exit))
         ≡ take (2 * cells) (pairsOf (now (into .entry))) ++ fillPairs (recordPairs - cells) ⌝ }
 {
+    let into = &mut into[0..RECORD_BYTES];
     let mut pair = cells;
     while pair < RECORD_PAIRS {
         let at = HEAD_BYTES + 2 * pair;
@@ -144,50 +128,66 @@ fn finish(into: &mut [u8], head: Head, count: u8, cells: usize)
     write_head(into, head, count);
 }
 
-// A row that has its terminator: the link leads on.
-fn end_row(screen: &[u8], attribute: &[u8], head: Head, cells: usize, into: &mut [u8]) -> Walked
+// Reads a row: up to its terminator, after which the link leads on, or up to its capacity.
+fn read_row(capacity: usize, screen: &[u8], attribute: &[u8], head: Head) -> RowRead
     requires { ⌜ length (now screen) ≡ screenBytes ⌝ }
     requires { ⌜ length (now attribute) ≡ attributeBytes ⌝ }
-    requires { ⌜ (head .start < places) × (cells ≤ recordPairs) ⌝ }
-    requires { ⌜ length (now into) ≡ recordBytes ⌝ }
-    ensures { λ r. ⌜ r ≡ wholeWalked (now (screen .entry)) (now (attribute .entry)) head cells ⌝ }
-    ensures { λ _. ⌜ now (into .exit) ≡ finished head cells cells (now (into .entry)) ⌝ }
+    requires { ⌜ (head .start < places) × (capacity ≤ recordPairs) ⌝ }
+    ensures { λ r. ⌜ r ≡ rowRead capacity (now (screen .entry)) (now (attribute .entry)) head ⌝ }
+    ensures { λ r. ⌜ r .cells ≤ recordPairs ⌝ }
 {
-    let place = head.start + cells;
-    let next = chain::link(screen, attribute, place);
-    let wild = chain::is_wild(screen, place);
-    finish(into, head, cells as u8, cells);
-    Walked {
-        reads: cells + 3,
-        wild,
-        next: Ahead::Row(next),
-    }
-}
-
-fn draw_row(columns: usize, screen: &[u8], attribute: &[u8], head: Head, into: &mut [u8]) -> Walked
-    requires { ⌜ length (now screen) ≡ screenBytes ⌝ }
-    requires { ⌜ length (now attribute) ≡ attributeBytes ⌝ }
-    requires { ⌜ (columns ≤ recordPairs) × (head .start < places) ⌝ }
-    requires { ⌜ length (now into) ≡ recordBytes ⌝ }
-    ensures { λ r. ⌜ r
-        ≡ walked (chain columns (now (screen .entry)) (now (attribute .entry))) (Ahead.Row head) ⌝ }
-    ensures { λ _. ⌜ now (into .exit)
-        ≡ drawnAhead (chain columns (now (screen .entry)) (now (attribute .entry))) (Ahead.Row head) ⌝ }
-{
-    let capacity = chain::capacity(columns, head.kind);
-    let Terminator::After(cells) = draw_to_terminator(screen, attribute, head.start, capacity, into)
-    else {
-        finish(into, head, TORN, capacity);
-        return Walked {
+    let start = head.start as usize;
+    let Terminator::After(cells) = chain::find_terminator(screen, start, capacity) else {
+        let walked = Walked {
             reads: capacity + 1,
             wild: false,
             next: Ahead::Dark,
         };
+        return RowRead {
+            cells: capacity,
+            count: TORN,
+            walked,
+        };
     };
-    end_row(screen, attribute, head, cells, into)
+    let place = start + cells;
+    let next = chain::link(screen, attribute, place);
+    RowRead {
+        cells,
+        count: cells as u8,
+        walked: Walked {
+            reads: cells + 3,
+            wild: chain::is_wild(screen, place),
+            next: Ahead::Row(next),
+        },
+    }
 }
 
-// The record of the row that lies ahead.
+fn draw_row(capacity: usize, screen: &[u8], attribute: &[u8], head: Head, into: &mut [u8]) -> Walked
+    requires { ⌜ length (now screen) ≡ screenBytes ⌝ }
+    requires { ⌜ length (now attribute) ≡ attributeBytes ⌝ }
+    requires { ⌜ (head .start < places) × (capacity ≤ recordPairs) ⌝ }
+    requires { ⌜ length (now into) ≡ recordBytes ⌝ }
+    ensures { λ r. ⌜ r ≡ rowRead capacity (now (screen .entry)) (now (attribute .entry)) head .walked ⌝ }
+    ensures { λ _. ⌜ now (into .exit)
+        ≡ rowDrawn capacity (now (screen .entry)) (now (attribute .entry)) head ⌝ }
+{
+    let row = read_row(capacity, screen, attribute, head);
+    let cells = row.cells;
+    draw_cells(
+        screen,
+        attribute,
+        head.start as usize,
+        cells,
+        &mut into[HEAD_BYTES..RECORD_BYTES],
+    );
+    finish(into, head, row.count, cells);
+    let walked = row.walked;
+    walked
+}
+
+// The record of the row that lies ahead. The capacity is worked out here, at a call for each, and not in `draw_row`:
+// called from one place alone it would become part of this function, and that too large to become part of its callers'
+// loops, which then keep what lies ahead in memory, and wait for it at every row.
 pub fn draw_ahead(
     columns: usize,
     screen: &[u8],
@@ -204,7 +204,12 @@ pub fn draw_ahead(
         ≡ drawnAhead (chain columns (now (screen .entry)) (now (attribute .entry))) ahead ⌝ }
 {
     match ahead {
-        Ahead::Row(head) => draw_row(columns, screen, attribute, head, into),
+        Ahead::Row(head) => {
+            if chain::is_wide(head.kind) {
+                return draw_row(columns / 2, screen, attribute, head, into);
+            }
+            draw_row(columns, screen, attribute, head, into)
+        }
         Ahead::Dark => {
             finish(into, Head::first(), DARK, 0);
             Walked {

@@ -31,4 +31,4 @@ line-sized m table bytes scan = (row-sized m table bytes scan, go (showsNothing 
     go true e = rw e (length-replicate {A = ℕ} lineBytes 0)
     go false e =
         rw (e, length-append, row-sized m table bytes scan, length-replicate {A = ℕ} (lineBytes - dotsOfLine m) 0)
-        (omega (arith, dots-fit m))
+        (omega (arith, dots-fit (m .columns132)))

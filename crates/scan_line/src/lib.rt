@@ -1,12 +1,16 @@
 // A scan line of a row of the picture, as the tube shows it. Document 01, "Dots".
-ghost use Prim.Native.Nat.{_-_, _≤_, _<_};
+ghost use Prim.Native.Nat.{_-_, _*_, _≤_, _<_};
 ghost use mathlib.Core.Path.{_≡_};
 ghost use mathlib.Core.List.{_++_};
 ghost use lib.ListN.{length, take, replicate};
 ghost use Rattle.lent.specs.Lengths.{glyphBytes, lineBytes};
 ghost use Rattle.records.specs.Record.{recordBytes};
+ghost use Rattle.picture.specs.Picture.{inOrder};
+ghost use Rattle.glyphs.specs.Glyphs.{codeBytes};
 ghost use Rattle.glyphs.specs.Scans.{firstScan, lastScan};
+ghost use Rattle.dots.specs.Inner.{widthOf};
 ghost use Rattle.scan_line.specs.Line.{rowDots, dotsOfLine, showsNothing, lineOf};
+ghost use Rattle.scan_line.specs.Inner.{cellsOf, pairBytes};
 ghost use Rattle.scan_line.specs.Call.{lengthsLine, onTube, drawnLine, drawLine};
 use machine::Machine;
 
@@ -78,7 +82,63 @@ fn clear(line: &mut [u8], from: usize)
     }
 }
 
-// Draws the record's first pairs, as many as its kind has cells.
+// How many cells a row can have.
+fn cells_of(columns132: bool, wide: bool) -> usize
+    ensures { λ r. ⌜ r ≡ cellsOf columns132 wide ⌝ }
+{
+    if columns132 {
+        return if wide { 66 } else { 132 };
+    }
+    if wide { 40 } else { 80 }
+}
+
+// Draws the record's first pairs, as many as a row can have cells.
+fn draw_cells(
+    columns132: bool,
+    wide: bool,
+    turns: &[u64; dots::ATTRIBUTES],
+    unlit: &[u64; dots::ATTRIBUTES],
+    bytes: &[u8],
+    table: &[u8],
+    address: usize,
+    line: &mut [u8],
+)
+    requires { ⌜ length (now bytes) ≡ recordBytes ⌝ }
+    requires { ⌜ length (now table) ≡ glyphBytes ⌝ }
+    requires { ⌜ address < codeBytes ⌝ }
+    requires { ⌜ length (now line) ≡ lineBytes ⌝ }
+    ensures { λ _. ⌜ take (cellsOf columns132 wide * widthOf columns132 wide) (now (line .exit))
+        ≡ inOrder
+        (pairBytes columns132 wide (now (turns .entry)) (now (unlit .entry)) (now (bytes .entry))
+        (now (table .entry)) address)
+        (cellsOf columns132 wide) ⌝ }
+{
+    let halves = dots::halves(wide);
+    let width = dots::cell_width(columns132, wide);
+    let cells = cells_of(columns132, wide);
+    let table = &table[0..lent::GLYPH_BYTES];
+    let mut cell = 0;
+    while cell < cells {
+        let pair = records::HEAD_BYTES + 2 * cell;
+        let glyph = glyphs::byte(table, bytes[pair], address);
+        let attribute = bytes[pair + 1] as usize % dots::ATTRIBUTES;
+        let at = cell * width;
+        let end = at + width;
+        dots::draw_cell(
+            columns132,
+            wide,
+            &halves,
+            turns[attribute],
+            unlit[attribute],
+            glyph,
+            &mut line[at..end],
+        );
+        cell += 1;
+    }
+}
+
+// Draws the row of a record. The two settings are written out at each call, so that a compiler can make a loop for each
+// of the four in which nothing is left to decide.
 fn draw_row(machine: Machine, bytes: &[u8], table: &[u8], scan: usize, line: &mut [u8])
     requires { ⌜ length (now bytes) ≡ recordBytes ⌝ }
     requires { ⌜ length (now table) ≡ glyphBytes ⌝ }
@@ -88,19 +148,25 @@ fn draw_row(machine: Machine, bytes: &[u8], table: &[u8], scan: usize, line: &mu
         ≡ rowDots machine (now (table .entry)) (now (bytes .entry)) scan ⌝ }
 {
     let kind = bytes[records::KIND_AT] % 8;
+    let wide = chain::is_wide(kind);
     let shown = glyphs::glyph_scan(kind, scan);
     let address = glyphs::scan_address(shown);
-    let width = dots::cell_width(machine, kind);
-    let cells = chain::capacity(machine.columns(), kind);
-    let mut cell = 0;
-    while cell < cells {
-        let pair = records::HEAD_BYTES + 2 * cell;
-        let glyph = glyphs::byte(table, bytes[pair], address);
-        let attribute = bytes[pair + 1] % 16;
-        let at = cell * width;
-        let end = at + width;
-        dots::draw_cell(machine, kind, attribute, shown, glyph, &mut line[at..end]);
-        cell += 1;
+    let mut turns = [0u64; dots::ATTRIBUTES];
+    let mut unlit = [0u64; dots::ATTRIBUTES];
+    dots::put_turns(machine, shown, &mut turns);
+    dots::put_unlit(machine, shown, &mut unlit);
+    if machine.columns132 {
+        if wide {
+            draw_cells(true, true, &turns, &unlit, bytes, table, address, line);
+        } else {
+            draw_cells(true, false, &turns, &unlit, bytes, table, address, line);
+        }
+    } else {
+        if wide {
+            draw_cells(false, true, &turns, &unlit, bytes, table, address, line);
+        } else {
+            draw_cells(false, false, &turns, &unlit, bytes, table, address, line);
+        }
     }
 }
 

@@ -1,7 +1,7 @@
 -- A part of the list, filled from the front: what holds with so many lines, how it begins, goes on and ends.
 use Prim.Native.Nat.{ℕ, _+_, _-_, _*_, _/_, _%_, _≤_, _<_}
 use mathlib.Core.Path.{_≡_, refl, sym, ap, subst, _∙_}
-use mathlib.Core.List.{List, _++_, append-assoc}
+use mathlib.Core.List.{List, [], _∷_, _++_, append-assoc}
 use native.Mathlib.Omega.{arith}
 use native.Mathlib.Numerals.{add-one}
 use lib.ListN.{length, take, set, length-set}
@@ -10,49 +10,42 @@ use Rattle.records.proofs.Laws.{two-stored}
 use borrow.Rule.Slice.PartMut.{midOf, putMid, mid-len, same-len-mid}
 use Rattle.lent.specs.Lengths.{listBytes}
 use Rattle.picture.specs.Picture.{inOrder}
-use Rattle.picture.proofs.Parts.{part-put}
+use Rattle.lent.proofs.Parts.{part-put}
 use Rattle.whole_screen.specs.Screen.{lines}
-use Rattle.whole_screen.specs.Inner.{linesOfRows, linesFrom}
+use Rattle.whole_screen.specs.Inner.{numbered, linesFrom}
 use Rattle.whole_screen.proofs.Numbers.{entries-length}
 
-pub record Filling (from : ℕ) (before part : List ℕ) (line : ℕ) : Type 0 where
-  pub even : length before % 2 ≡ 0
-  pub few : from + length before / 2 ≤ linesOfRows
-  pub same : length part ≡ length before
-  pub within : line ≤ length before / 2
+pub record Filling (from lines : ℕ) (part : List ℕ) (line : ℕ) : Type 0 where
+  pub same : length part ≡ 2 * lines
+  pub within : line ≤ lines
   pub filled : take (2 * line) part ≡ linesFrom from line
 
 pub filling-begins :
-    (from : ℕ) (part : List ℕ) → length part % 2 ≡ 0 → from + length part / 2 ≤ linesOfRows → Filling from part part 0
+    (from : ℕ) (part : List ℕ) → let lines = length part / 2 in Filling from lines (midOf 0 (2 * lines - 0) part) 0
 unfolding inOrder
-filling-begins from part even few =
-    record { even = even; few = few; same = refl; within = omega arith; filled = refl }
+filling-begins from part =
+    record {
+      same = mid-len 0 (2 * (length part / 2)) part (omega arith) ∙ omega arith;
+      within = omega arith;
+      filled = refl;
+    }
 
-module _ {from : ℕ} {before part : List ℕ} {line : ℕ} (f : Filling from before part line) where
-  pub room : line < length before / 2 → 2 * line + 1 < length part
-  room more = omega (arith, f .same)
-
+module _ {from lines : ℕ} {part : List ℕ} {line : ℕ} (f : Filling from lines part line) where
   pub filling-goes-on :
-      line < length before / 2
-      → Filling from before
-      (set (set part (2 * line) ((from + line) / 10)) (2 * line + 1) ((from + line) % 10 + 1)) (line + 1)
+      (row scan : ℕ) → line < lines → numbered (from + line) ≡ row ∷ scan ∷ []
+      → Filling from lines (set (set part (2 * line) row) (2 * line + 1) scan) (line + 1)
   unfolding inOrder
-  filling-goes-on more =
+  filling-goes-on row scan more is =
       record {
-        even = f .even;
-        few = f .few;
         same = simp length-set (f .same);
         within = omega arith;
-        filled =
-            rw (two-stored part line ((from + line) / 10) ((from + line) % 10 + 1) (room more), f .filled, add-one line)
-            refl;
+        filled = rw (two-stored part line row scan (omega (arith, f .same)), f .filled, add-one line, is) refl;
       }
 
-  pub filling-ends : length before / 2 ≤ line → part ≡ linesFrom from (length before / 2)
+  pub filling-ends : lines ≤ line → part ≡ linesFrom from lines
   filling-ends all =
-      let last : length before / 2 ≡ line = omega (arith, f .within) in
-      let whole : length part ≤ 2 * line = omega (arith, f .same, f .even) in
-      sym (take-all (2 * line) part whole) ∙ f .filled ∙ ap (linesFrom from) (sym last)
+      let last : lines ≡ line = omega (arith, f .within) in
+      sym (take-all (2 * line) part (omega (arith, f .same))) ∙ f .filled ∙ ap (linesFrom from) (sym last)
 
 -- a part of the list is lent, and comes back filled: from line `at` on and ahead of line `end`
 module _ (list new : List ℕ) (at end number : ℕ) (some : at ≤ end) (room : 2 * end ≤ length list)

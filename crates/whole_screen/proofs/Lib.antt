@@ -1,6 +1,6 @@
 pub mod Numbers
 pub mod Run
-pub mod Lines
+pub mod ByNumber
 pub mod Filling
 pub mod Seeking
 pub mod Shown

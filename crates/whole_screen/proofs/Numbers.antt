@@ -1,18 +1,20 @@
 -- Laws about lines one after the other, and about the numbers of the lines of all rows.
-use Prim.Native.Nat.{ℕ, zero, suc, _+_, _-_, _*_, _/_, _%_, _≤_, _<_}
+use Prim.Native.Nat.{ℕ, zero, suc, _+_, _*_, _/_, _%_, _≤_, _<_}
 use mathlib.Core.Path.{_≡_, refl, sym, ap, _∙_}
 use mathlib.Core.List.{List, [], _∷_, _++_, append-assoc, append-nil}
-use mathlib.Core.Bool.{Bool, true, false}
+use mathlib.Core.Bool.{Bool, true, false, not}
 use native.Mathlib.Nat.{add-zero, add-suc, add-assoc}
 use native.Mathlib.Omega.{arith}
 use lib.ListN.{length, getD, List·getD-append}
 use lib.Seq.{getD-append-add}
 use lib.Dec.{eqb}
-use borrow.Author.Tests.{eqb-true, eqb-false}
+use borrow.Author.Tests.{eqb-true, eqb-false, not-false}
+use Rattle.chain.specs.First.{firstThat}
+use Rattle.chain.proofs.First.{first-that}
 use Rattle.picture.specs.Picture.{inOrder}
 use Rattle.picture.proofs.Records.{same-records, pieces-length}
 use Rattle.whole_screen.specs.Screen.{linesOf, inFull}
-use Rattle.whole_screen.specs.Inner.{numbered, linesFrom}
+use Rattle.whole_screen.specs.Inner.{linesOfRows, numbered, Listed, linesFrom}
 
 pub pieces-split :
     (f : ℕ → List ℕ) (m n : ℕ) → inOrder f (m + n) ≡ inOrder f m ++ inOrder (λ k. f (m + k)) n
@@ -82,3 +84,16 @@ in-full (suc n) =
     let all : suc n * 10 ≡ n * 10 + 10 = omega arith in
     rw (all, in-full n, from-split 0 (n * 10) 10)
     (ap (λ (l : List ℕ). linesFrom 0 (n * 10) ++ l) (of-a-row n 0 10 (0 + n * 10) (omega arith) (omega arith)))
+
+-- in a table of all lines, each as one number, none is wrong
+abbrev pub wrong : (all : List ℕ) → (number : ℕ) → Bool
+wrong all number = not (eqb (getD all number 0) ((number % 10 + 1) * 256 + number / 10))
+
+pub all-right : (all : List ℕ) → firstThat (wrong all) 0 linesOfRows ≡ linesOfRows → Listed all
+unfolding Listed
+all-right all none number h =
+    let right = not-false _ (first-that (wrong all) 0 linesOfRows .1 .1 .1 number (omega arith) (omega (arith, none))) in
+    let is = eqb-true (getD all number 0) ((number % 10 + 1) * 256 + number / 10) right in
+    let row : getD all number 0 % 256 ≡ number / 10 = omega arith in
+    let scan : getD all number 0 / 256 ≡ number % 10 + 1 = omega arith in
+    rw (row, scan) refl

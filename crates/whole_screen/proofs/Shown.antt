@@ -12,7 +12,7 @@ use Rattle.whole_screen.specs.Shown.{rowIn, scanIn, Always240, EachIsALi
 use Rattle.whole_screen.specs.Inner.{numberAt, shownAt}
 use Rattle.whole_screen.proofs.Numbers.{entries-length, entry-at}
 use Rattle.whole_screen.proofs.Run.{first-run, moving}
-use Rattle.whole_screen.proofs.Lines.{at-head, at-run, at-foot, by-number}
+use Rattle.whole_screen.proofs.ByNumber.{at-head, at-run, at-foot, by-number}
 
 -- where a line of the screen stands, and the number that it shows: ahead of the run, in it, under it
 pub data Place (first end latch line n : ℕ) : Type 0 where

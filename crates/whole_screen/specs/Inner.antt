@@ -1,8 +1,10 @@
 -- No sentence of a document: what our own functions promise each other. All rows in full have ten lines each, which are
 -- numbered from the top, and the list is told by these numbers.
-use Prim.Native.Nat.{ℕ, _+_, _-_, _*_, _/_, _%_}
+use Prim.Native.Nat.{ℕ, _+_, _-_, _*_, _/_, _%_, _<_}
+use mathlib.Core.Path.{_≡_}
 use mathlib.Core.List.{List, [], _∷_}
 use mathlib.Core.Bool.{Bool, not, cond}
+use lib.ListN.{getD}
 use lib.Dec.{ltb}
 use Rattle.chain.specs.Chain.{rows}
 use Rattle.picture.specs.Picture.{inOrder}
@@ -15,6 +17,10 @@ linesOfRows = rows * lastScan
 -- the row and the scan of the line with a number
 abbrev pub numbered : (number : ℕ) → List ℕ
 numbered number = number / lastScan ∷ (number % lastScan + firstScan) ∷ []
+
+-- all of them in a list, each as one number: the scan above the row
+unfoldable pub Listed : List ℕ → Type 0
+Listed all = (number : ℕ) → number < linesOfRows → numbered number ≡ getD all number 0 % 256 ∷ getD all number 0 / 256 ∷ []
 
 -- so many lines, from a number on
 abbrev pub linesFrom : (number count : ℕ) → List ℕ

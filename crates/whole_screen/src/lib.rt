@@ -8,8 +8,10 @@ ghost use Rattle.chain.specs.Chain.{rows};
 ghost use Rattle.chain.specs.First.{firstThat};
 ghost use Rattle.whole_screen.specs.Screen.{scrolls, screenLines};
 ghost use Rattle.whole_screen.specs.Call.{lengthsList, kindsIn, latchMost, listed, listLines};
-ghost use Rattle.whole_screen.specs.Inner.{linesOfRows, linesFrom, asked, numberAt, byNumber};
+ghost use Rattle.whole_screen.specs.Inner.{linesOfRows, Listed, linesFrom, asked, numberAt, byNumber};
 use machine::Machine;
+
+mod lines;
 
 // "A screen is 240 lines": those of the rows at rest.
 pub const LINES: usize = chain::ROWS_AT_REST * glyphs::LAST_SCAN;
@@ -49,25 +51,35 @@ fn first_that(picture: &[u8], from: usize, still: bool) -> usize
 }
 
 // Fills a part of the list. All rows in full have ten lines each, numbered from the top; the part's lines are those
-// from one number on.
-fn put_lines(from: usize, part: &mut [u8])
+// from one number on. The parts have the length that the loop goes to, so that the lines can be copied together.
+fn put_lines(all: &[u16; lines::LINES_OF_ROWS], from: usize, part: &mut [u8])
+    requires { ⌜ Listed (now all) ⌝ }
     requires { ⌜ length (now part) % 2 ≡ 0 ⌝ }
     requires { ⌜ from + length (now part) / 2 ≤ linesOfRows ⌝ }
     ensures { λ _. ⌜ now (part .exit) ≡ linesFrom from (length (now (part .entry)) / 2) ⌝ }
 {
     let lines = part.len() / 2;
+    let part = &mut part[0..2 * lines];
+    let all = &all[..];
+    let asked = &all[from..from + lines];
     let mut line = 0;
     while line < lines {
-        let number = from + line;
-        part[2 * line] = (number / glyphs::LAST_SCAN) as u8;
-        part[2 * line + 1] = (number % glyphs::LAST_SCAN + glyphs::FIRST_SCAN) as u8;
+        part[2 * line] = (asked[line] % 256) as u8;
+        part[2 * line + 1] = (asked[line] / 256) as u8;
         line += 1;
     }
 }
 
 // Fills the list where a run scrolls, which begins with the row `first` and ends ahead of the row `end`. Of all lines
 // the run's first row lacks the top ones, as many as the latch says, and its last row so many that a row is gone.
-fn put_scrolled(first: usize, end: usize, latch: usize, list: &mut [u8])
+fn put_scrolled(
+    all: &[u16; lines::LINES_OF_ROWS],
+    first: usize,
+    end: usize,
+    latch: usize,
+    list: &mut [u8],
+)
+    requires { ⌜ Listed (now all) ⌝ }
     requires { ⌜ (first < end) × (end ≤ rows) ⌝ }
     requires { ⌜ latch ≤ latchMost ⌝ }
     requires { ⌜ length (now list) ≡ listBytes ⌝ }
@@ -75,9 +87,10 @@ fn put_scrolled(first: usize, end: usize, latch: usize, list: &mut [u8])
 {
     let run = first * glyphs::LAST_SCAN;
     let below = (end - 1) * glyphs::LAST_SCAN;
-    put_lines(0, &mut list[0..2 * run]);
-    put_lines(run + latch, &mut list[2 * run..2 * below]);
+    put_lines(all, 0, &mut list[0..2 * run]);
+    put_lines(all, run + latch, &mut list[2 * run..2 * below]);
     put_lines(
+        all,
         below + glyphs::LAST_SCAN,
         &mut list[2 * below..lent::LIST_BYTES],
     );
@@ -90,12 +103,13 @@ fn put_screen(picture: &[u8], latch: usize, list: &mut [u8])
     requires { ⌜ length (now list) ≡ listBytes ⌝ }
     ensures { λ _. ⌜ now (list .exit) ≡ screenLines (kindsIn (now (picture .entry))) latch ⌝ }
 {
+    let all = lines::ALL_LINES;
     let first = first_that(picture, 0, false);
     if (first == chain::ROWS) | (latch == 0) {
-        put_lines(0, list);
+        put_lines(&all, 0, list);
         return;
     }
-    put_scrolled(first, first_that(picture, first, true), latch, list);
+    put_scrolled(&all, first, first_that(picture, first, true), latch, list);
 }
 
 // Lists the lines of the whole screen from the top: for each the row and the scan that it shows. The answer is the

@@ -1,20 +1,21 @@
-use Prim.Native.Nat.{_+_, _-_}
+use Prim.Native.Nat.{_-_}
 use mathlib.Core.Path.{sym, _∙_}
 use native.Mathlib.Omega.{arith}
+use lib.ListN.{length}
 use borrow.Author.Needs.{needs}
 use Rattle.chain.specs.Inner.{Sought}
-use Rattle.chain.proofs.Searching.{none-sought, sought-many, part-has-none}
+use Rattle.chain.proofs.Searching.{sought-many}
 use Rattle.chain.proofs.pass_together.Statement.{statement}
 use Rattle.chain.proofs.pass_together.Tie as tie
 
 abbrev Inv-loop : tie.InvT-loop
-Inv-loop screen start capacity room cells₀ cells = Sought screen start (capacity + 1) cells
+Inv-loop bytes from together at₀ at = Sought bytes at
 
 abbrev μ-loop : tie.MeasureT-loop
-μ-loop screen start capacity room cells₀ cells = room - cells
+μ-loop bytes from together at₀ at = length bytes - at
 
 loop-holds : tie.Need-loop-holds Inv-loop μ-loop
-loop-holds c = none-sought _ _ _
+loop-holds c = c .before .pre .1
 
 returns : tie.Need-returns Inv-loop μ-loop
 returns c = c .before .before .before .before .loop .inv
@@ -22,10 +23,7 @@ returns c = c .before .before .before .before .loop .inv
 loop-again : tie.Need-loop-again Inv-loop μ-loop
 loop-again c =
     let h = c .before in
-    let l = h .before .before .before in
-    let s = l .before .before .before in
-    let none = part-has-none (s .args .screen .now) (s .args .start + l .loop .cells) 16 (s .pre .0) (omega arith) (sym (h .has-terminator .ensures) ∙ c .if1 .left) in
-    sought-many (l .loop .cells) 16 (l .loop .inv) (omega arith) none
+    sought-many (h .before .before .before .loop .inv) (h .before .before .before .before .before .args .together) (omega arith) (sym (h .has-terminator .ensures) ∙ c .if1 .left)
 
 returns-2 : tie.Need-returns-2 Inv-loop μ-loop
 returns-2 c = c .before .loop .inv
@@ -36,9 +34,7 @@ pass-together-spec =
     (tie.spec
     Inv-loop
     μ-loop
-    (λ c κs. search needs)
     loop-holds
-    (λ c. search needs)
     (λ c. search needs)
     (λ c. search needs)
     (λ c. search needs)

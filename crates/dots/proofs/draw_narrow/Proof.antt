@@ -1,55 +1,52 @@
-use Prim.Native.Nat.{ℕ}
-use mathlib.Core.Path.{_≡_, ap, _∙_}
-use mathlib.Core.List.{List}
+use Prim.Native.Nat.{ℕ, _/_, _%_, _≤_}
+use mathlib.Core.Path.{refl, ap, _∙_}
+use mathlib.Core.List.{[], _∷_}
 use native.Mathlib.Omega.{arith}
 use lib.ListN.{length, length-set}
 use borrow.Author.Needs.{needs}
-use Rattle.dots.specs.Inner.{eightDots}
+use denote.Ref.{now}
+use Rattle.lent.proofs.Tests.{either}
 use Rattle.dots.specs.Cell.{narrowWidth}
-use Rattle.dots.proofs.Laws.{narrow-room}
-use Rattle.dots.proofs.Fill.{Eight, narrow-132, narrow-80}
+use Rattle.dots.specs.Inner.{narrowBytes}
+use Rattle.dots.proofs.Laws.{rest-stored}
 use Rattle.dots.proofs.draw_narrow.Statement.{statement}
 use Rattle.dots.proofs.draw_narrow.Tie as tie
 
--- what the eight dots left
-abbrev drawn : tie.After-shade-bit → List ℕ
-drawn c = c .before .before .before .draw-eight .last .1 .1 .1 .0
-
-abbrev asked : tie.After-shade-bit → tie.Start
-asked c = c .before .before .before .before .before .before
-
-size : (c : tie.After-shade-bit) → length (drawn c) ≡ narrowWidth (asked c .args .columns132)
-size c = c .before .before .before .draw-eight .kept .1 .1 .1 .0 ∙ asked c .pre
-
-eight :
-    (c : tie.After-shade-bit)
-    → Eight (asked c .args .lit) (asked c .args .unlit) (asked c .args .glyph) (eightDots (asked c .args .glyph)) (drawn c) 8 (c .shade-bit .result)
-eight c = record { drawn = c .before .before .before .draw-eight .ensures; again = c .shade-bit .ensures }
-
-draw-eight-requires : tie.Need-draw-eight-requires
-draw-eight-requires c κs = omega (arith, c .before .before .pre, narrow-room (c .before .before .args .columns132))
-
-slice-write-into : tie.Need-slice-write-into
-slice-write-into c = omega (arith, size c, narrow-room (asked c .args .columns132))
+room : (s : tie.Start) → 9 ≤ length (now (s .args .into))
+room s = rw (s .pre .1) (either (λ (n : ℕ). 9 ≤ n) (s .args .columns132) 9 10 (λ e. search needs) (λ e. search needs))
 
 returns : tie.Need-returns
-returns c = rw (c .if1 .taken) (narrow-132 (eight (c .before)) (size (c .before) ∙ ap narrowWidth (c .if1 .taken)))
-
-slice-write-into-2 : tie.Need-slice-write-into-2
-slice-write-into-2 c = simp length-set (omega (arith, size (c .before) ∙ ap narrowWidth (c .if1 .left)))
+unfolding narrowBytes
+returns c =
+    let p = c .before .before .before in
+    let s = p .before .before .before .before .before in
+    rw (c .if1 .taken, p .put-word .ensures, s .pre .0 (s .args .glyph / 16) (search needs), s .pre .0 (s .args .glyph % 16) (search needs), rest-stored (s .args .into .now) 8 (_ ∷ []) (s .pre .1 ∙ ap narrowWidth (c .if1 .taken))) refl
 
 returns-2 : tie.Need-returns-2
-returns-2 c = rw (c .if1 .left) (narrow-80 (eight (c .before)) (size (c .before) ∙ ap narrowWidth (c .if1 .left)))
+unfolding narrowBytes
+returns-2 c =
+    let p = c .before .before .before in
+    let s = p .before .before .before .before .before in
+    rw (c .if1 .left, p .put-word .ensures, s .pre .0 (s .args .glyph / 16) (search needs), s .pre .0 (s .args .glyph % 16) (search needs), rest-stored (s .args .into .now) 8 (_ ∷ _ ∷ []) (s .pre .1 ∙ ap narrowWidth (c .if1 .left))) refl
 
 pub draw-narrow-spec : {M : Type 1} → statement M
 draw-narrow-spec =
     tie.close
     (tie.spec
-    draw-eight-requires
+    (λ c. search needs)
+    (λ c. search needs)
+    (λ c. search needs)
+    (λ c. search needs)
+    (λ c. search needs)
+    (λ c. search needs)
+    (λ c. search needs)
+    (λ c. search needs)
+    (λ c. omega (arith, room (c .before .before .before)))
     (λ c κs. search needs)
-    slice-write-into
+    (λ c. search needs)
+    (λ c. omega (arith, c .before .into .given, room (c .before .before .before .before .before .before .before)))
     (λ c. search needs)
     returns
-    slice-write-into-2
+    (λ c. simp length-set (omega (arith, c .before .before .into .given, c .before .before .before .before .before .before .before .before .pre .1 ∙ ap narrowWidth (c .if1 .left))))
     (λ c. search needs)
     returns-2)

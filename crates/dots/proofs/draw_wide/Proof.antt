@@ -1,63 +1,61 @@
-use Prim.Native.Nat.{ℕ}
-use mathlib.Core.Path.{_≡_, ap, _∙_}
-use mathlib.Core.List.{List}
+use Prim.Native.Nat.{ℕ, _/_, _%_, _≤_}
+use mathlib.Core.Path.{refl, ap, _∙_}
+use mathlib.Core.List.{[], _∷_}
 use native.Mathlib.Omega.{arith}
 use lib.ListN.{length, length-set}
+use lib.Seq.{drop-drop}
 use borrow.Author.Needs.{needs}
-use Rattle.dots.specs.Inner.{eightDots}
-use Rattle.dots.specs.Cell.{twice, wideWidth}
-use Rattle.dots.proofs.Laws.{wide-room}
-use Rattle.dots.proofs.Fill.{Eight, wide-132, wide-80}
+use denote.Ref.{now}
+use Rattle.lent.proofs.Tests.{either}
+use Rattle.dots.specs.Cell.{wideWidth}
+use Rattle.dots.specs.Inner.{wideBytes}
+use Rattle.dots.proofs.Laws.{rest-stored}
 use Rattle.dots.proofs.draw_wide.Statement.{statement}
 use Rattle.dots.proofs.draw_wide.Tie as tie
 
--- what the eight dots left
-abbrev drawn : tie.After-shade-bit → List ℕ
-drawn c = c .before .before .before .draw-eight-twice .last .1 .1 .1 .0
-
-abbrev asked : tie.After-shade-bit → tie.Start
-asked c = c .before .before .before .before .before .before
-
-size : (c : tie.After-shade-bit) → length (drawn c) ≡ wideWidth (asked c .args .columns132)
-size c = c .before .before .before .draw-eight-twice .kept .1 .1 .1 .0 ∙ asked c .pre
-
-eight :
-    (c : tie.After-shade-bit)
-    → Eight (asked c .args .lit) (asked c .args .unlit) (asked c .args .glyph) (twice (eightDots (asked c .args .glyph))) (drawn c) 16 (c .shade-bit .result)
-eight c = record { drawn = c .before .before .before .draw-eight-twice .ensures; again = c .shade-bit .ensures }
-
-draw-eight-twice-requires : tie.Need-draw-eight-twice-requires
-draw-eight-twice-requires c κs = omega (arith, c .before .before .pre, wide-room (c .before .before .args .columns132))
-
-slice-write-into : tie.Need-slice-write-into
-slice-write-into c = omega (arith, size c, wide-room (asked c .args .columns132))
-
-slice-write-into-2 : tie.Need-slice-write-into-2
-slice-write-into-2 c = simp length-set (omega (arith, size c, wide-room (asked c .args .columns132)))
+room : (s : tie.Start) → 18 ≤ length (now (s .args .into))
+room s = rw (s .pre .1) (either (λ (n : ℕ). 18 ≤ n) (s .args .columns132) 18 20 (λ e. search needs) (λ e. search needs))
 
 returns : tie.Need-returns
-returns c = rw (c .if1 .taken) (wide-132 (eight (c .before)) (size (c .before) ∙ ap wideWidth (c .if1 .taken)))
-
-slice-write-into-3 : tie.Need-slice-write-into-3
-slice-write-into-3 c = simp length-set (omega (arith, size (c .before) ∙ ap wideWidth (c .if1 .left)))
-
-slice-write-into-4 : tie.Need-slice-write-into-4
-slice-write-into-4 c = simp length-set (omega (arith, size (c .before) ∙ ap wideWidth (c .if1 .left)))
+unfolding wideBytes
+returns c =
+    let q = c .before .before .before in
+    let p = q .before .before .before .before in
+    let s = p .before .before .before .before .before in
+    rw (c .if1 .taken, q .put-word2 .ensures, p .put-word .ensures, s .pre .0 (s .args .glyph / 16) (search needs), s .pre .0 (s .args .glyph % 16) (search needs), drop-drop 8 8 (s .args .into .now), rest-stored (s .args .into .now) 16 (_ ∷ _ ∷ []) (s .pre .1 ∙ ap wideWidth (c .if1 .taken))) refl
 
 returns-2 : tie.Need-returns-2
-returns-2 c = rw (c .if1 .left) (wide-80 (eight (c .before)) (size (c .before) ∙ ap wideWidth (c .if1 .left)))
+unfolding wideBytes
+returns-2 c =
+    let q = c .before .before .before in
+    let p = q .before .before .before .before in
+    let s = p .before .before .before .before .before in
+    rw (c .if1 .left, q .put-word2 .ensures, p .put-word .ensures, s .pre .0 (s .args .glyph / 16) (search needs), s .pre .0 (s .args .glyph % 16) (search needs), drop-drop 8 8 (s .args .into .now), rest-stored (s .args .into .now) 16 (_ ∷ _ ∷ _ ∷ _ ∷ []) (s .pre .1 ∙ ap wideWidth (c .if1 .left))) refl
 
 pub draw-wide-spec : {M : Type 1} → statement M
 draw-wide-spec =
     tie.close
     (tie.spec
-    draw-eight-twice-requires
+    (λ c. search needs)
+    (λ c. search needs)
+    (λ c. search needs)
+    (λ c. search needs)
+    (λ c. search needs)
+    (λ c. search needs)
+    (λ c. search needs)
+    (λ c. search needs)
+    (λ c. omega (arith, room (c .before .before .before)))
     (λ c κs. search needs)
-    slice-write-into
-    slice-write-into-2
     (λ c. search needs)
+    (λ c. search needs)
+    (λ c. omega (arith, c .before .into .given, room (c .before .before .before .before .before .before .before)))
+    (λ c κs. search needs)
+    (λ c. search needs)
+    (λ c. let i = c .before .before .before .before .before in omega (arith, c .before .into2 .given, i .into .given, room (i .before .before .before .before .before .before)))
+    (λ c. let i = c .before .before .before .before .before in simp length-set (omega (arith, c .before .into2 .given, i .into .given, room (i .before .before .before .before .before .before))))
+    (λ c. simp length-set (c .before .before .into2 .given .1 ∙ c .before .before .before .before .before .before .into .given .1))
     returns
-    slice-write-into-3
-    slice-write-into-4
-    (λ c. search needs)
+    (λ c. let i = c .before .before .before .before .before .before in simp length-set (omega (arith, c .before .before .into2 .given, i .into .given, i .before .before .before .before .before .before .pre .1 ∙ ap wideWidth (c .if1 .left))))
+    (λ c. let i = c .before .before .before .before .before .before in simp length-set (omega (arith, c .before .before .into2 .given, i .into .given, i .before .before .before .before .before .before .pre .1 ∙ ap wideWidth (c .if1 .left))))
+    (λ c. simp length-set (c .before .before .into2 .given .1 ∙ c .before .before .before .before .before .before .into .given .1))
     returns-2)

@@ -11,7 +11,7 @@ returns : tie.Need-returns
 returns c = rw (not-true (c .before .args .lit) (c .if1 .taken)) refl
 
 sub-result : tie.Need-sub-result
-sub-result c = omega (arith, c .steady .ensures, steady-lit (c .before .before .before .before .args .attribute))
+sub-result c = omega (arith, c .steady .ensures, steady-lit (c .before .before .before .before .args .attribute) .0)
 
 returns-2 : tie.Need-returns-2
 returns-2 c = rw (not-false (c .before .before .before .before .args .lit) (c .before .before .before .if1 .left), c .before .if2 .taken, c .steady .ensures) refl

@@ -14,7 +14,7 @@ unfolding screenRead attributeRead
 returns c =
     let e = c .before in
     let f = e .before .before in
-    let a = f .before .before .before .before .args in
+    let a = f .before .before .before .before .before .args in
     let k = chain (a .columns) (a .screen .now) (a .attribute .now) in
     let is = f .before .capacity .ensures .0 in
     rw (row-found k (a .head) is (f .find-terminator .ensures), e .enum-told .given .1, c .torn-reads .ensures, is)
@@ -23,12 +23,12 @@ returns c =
 fits : (c : tie.After-known-told) → c .before .cells .given .0 .0 + 3 ≤ places
 fits c =
     let f = c .before .before .before in
-    let p = f .before .before .before .before .pre in
+    let p = f .before .before .before .before .before .pre in
     whole-fits _ _ (f .find-terminator .ensures) (c .before .cells .given .1) (f .before .capacity .ensures .1) (p .1 .1 .0 .0)
 
 whole-reads-requires : tie.Need-whole-reads-requires
 whole-reads-requires c κs =
-    let p = c .before .before .before .before .before .before .before .pre in
+    let p = c .before .before .before .before .before .before .before .before .pre in
     (p .1 .1 .1, (p .1 .1 .0 .1, fits c))
 
 add-link : tie.Need-add-link
@@ -42,7 +42,7 @@ unfolding attributeRead screenRead
 returns-2 c =
     let t = c .before .before in
     let f = t .before .before .before in
-    let a = f .before .before .before .before .args in
+    let a = f .before .before .before .before .before .args in
     let k = chain (a .columns) (a .screen .now) (a .attribute .now) in
     let is = f .before .capacity .ensures .0 in
     rw (row-found k (a .head) is (f .find-terminator .ensures), t .before .cells .given .1, c .before .whole-reads .ensures, c .link .ensures) refl
@@ -51,6 +51,7 @@ pub pass-row-spec : {M : Type 1} → statement M
 pass-row-spec =
     tie.close
     (tie.spec
+    (λ c. search needs)
     (λ c κs. search needs)
     (λ c κs. search needs)
     (λ c. search needs)

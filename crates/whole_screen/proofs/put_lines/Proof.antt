@@ -1,27 +1,37 @@
-use Prim.Native.Nat.{_-_}
-use lib.ListN.{length-set}
+use Prim.Native.Nat.{_+_, _-_, _*_, _/_, _<_}
+use mathlib.Core.Path.{_∙_}
+use native.Mathlib.Omega.{arith}
+use lib.ListN.{length, length-set}
+use lib.Seq.{getD-take, getD-drop}
 use borrow.Author.Needs.{needs}
-use Rattle.whole_screen.proofs.Filling.{Filling, filling-begins, room, filling-goes-on, filling-ends}
+use Rattle.lent.proofs.Parts.{all-back}
+use Rattle.whole_screen.specs.Inner.{Listed}
+use Rattle.whole_screen.proofs.Filling.{Filling, filling-begins, filling-goes-on, filling-ends}
 use Rattle.whole_screen.proofs.put_lines.Statement.{statement}
 use Rattle.whole_screen.proofs.put_lines.Tie as tie
 
 abbrev Inv-loop : tie.InvT-loop
-Inv-loop from part₀ lines line₀ part line = Filling from part₀ part line
+Inv-loop all from lines part₀ asked line₀ part line = Filling from lines part line
 
 abbrev μ-loop : tie.MeasureT-loop
-μ-loop from part₀ lines line₀ part line = lines - line
+μ-loop all from lines part₀ asked line₀ part line = lines - line
 
-loop-holds : tie.Need-loop-holds Inv-loop μ-loop
-loop-holds c = filling-begins _ _ (search needs) (search needs)
-
-slice-write-part-2 : tie.Need-slice-write-part-2 Inv-loop μ-loop
-slice-write-part-2 c = simp length-set (room (c .before .loop .inv) (search needs))
-
+-- a line of the part is that line of all, from the first on
 loop-again : tie.Need-loop-again Inv-loop μ-loop
-loop-again c = filling-goes-on (c .before .loop .inv) (search needs)
+unfolding Listed
+loop-again c =
+    let l = c .before .before .before in
+    let s = l .before .before .before .before in
+    let from = s .args .from in
+    let more : l .loop .line < from + length (s .args .part .now) / 2 - from = omega arith in
+    rw (getD-take, getD-drop)
+    (filling-goes-on (l .loop .inv) _ _ (search needs) (s .pre .0 (from + l .loop .line) (omega arith)))
 
 returns : tie.Need-returns Inv-loop μ-loop
-returns c = filling-ends (c .before .loop .inv) (search needs)
+returns c =
+    let l = c .before .before .before in
+    let part = l .before .before .before .before .args .part .now in
+    all-back part (2 * (length part / 2)) (l .loop .part) (omega arith) ∙ filling-ends (l .loop .inv) (search needs)
 
 pub put-lines-spec : {M : Type 1} → statement M
 put-lines-spec =
@@ -29,7 +39,6 @@ put-lines-spec =
     (tie.spec
     Inv-loop
     μ-loop
-    loop-holds
     (λ c. search needs)
     (λ c. search needs)
     (λ c. search needs)
@@ -38,7 +47,19 @@ put-lines-spec =
     (λ c. search needs)
     (λ c. search needs)
     (λ c. search needs)
-    slice-write-part-2
+    (λ c. search needs)
+    (λ c. filling-begins _ (c .before .before .before .args .part .now))
+    (λ c. search needs)
+    (λ c. search needs)
+    (λ c. search needs)
+    (λ c. search needs)
+    (λ c. search needs)
+    (λ c. search needs)
+    (λ c. search needs)
+    (λ c. omega (arith, c .shared-slice-known2 .given (c .before .before .before .loop .line)))
+    (λ c. search needs)
+    (λ c. search needs)
+    (λ c. simp length-set (omega (arith, c .before .before .before .loop .inv .same)))
     (λ c. search needs)
     (λ c. search needs)
     loop-again

@@ -1,14 +1,20 @@
-use mathlib.Core.Path.{_∙_}
+use mathlib.Core.Path.{refl, _∙_}
 use borrow.Author.Needs.{needs}
+use Rattle.chain.specs.First.{firstThat}
 use Rattle.whole_screen.specs.Call.{kindsIn}
+use Rattle.whole_screen.proofs.Numbers.{all-right}
 use Rattle.whole_screen.proofs.Run.{start-found, start-within, rest-told, run-found}
-use Rattle.whole_screen.proofs.Lines.{screen-at-rest, screen-scrolled}
+use Rattle.whole_screen.proofs.ByNumber.{screen-at-rest, screen-scrolled}
 use Rattle.whole_screen.proofs.put_screen.Statement.{statement}
 use Rattle.whole_screen.proofs.put_screen.Tie as tie
 
+put-lines-requires : tie.Need-put-lines-requires
+unfolding firstThat
+put-lines-requires c κs = (all-right _ refl, search needs)
+
 returns : tie.Need-returns
 returns c =
-    let t = c .before .before .before .before in
+    let t = c .before .before .before .before .before in
     let given = t .before .before .before .before .args in
     let kinds = kindsIn (given .picture .now) in
     let start = start-found kinds (t .before .first-that .ensures) in
@@ -17,22 +23,23 @@ returns c =
 
 first-that-requires-2 : tie.Need-first-that-requires-2
 first-that-requires-2 c κs =
-    let kinds = kindsIn (c .before .before .before .before .args .picture .now) in
-    (search needs, start-within kinds (c .before .first-that .ensures))
+    let kinds = kindsIn (c .before .before .before .before .before .args .picture .now) in
+    (search needs, start-within kinds (c .before .before .first-that .ensures))
 
 put-scrolled-requires : tie.Need-put-scrolled-requires
+unfolding firstThat
 put-scrolled-requires c κs =
-    let t = c .before .before in
+    let t = c .before .before .before in
     let given = t .before .before .before .before .args in
     let f =
     run-found (kindsIn (given .picture .now)) (given .latch) (t .before .first-that .ensures)
     (c .before .first-that2 .ensures) (t .if1 .left) in
-    ((f .some, f .among), (search needs, search needs))
+    (all-right _ refl, ((f .some, f .among), (search needs, search needs)))
 
 returns-2 : tie.Need-returns-2
 returns-2 c =
     let s = c .before .before in
-    let t = s .before .before .before in
+    let t = s .before .before .before .before in
     let given = t .before .before .before .before .args in
     let kinds = kindsIn (given .picture .now) in
     let f =
@@ -45,7 +52,7 @@ put-screen-spec =
     tie.close
     (tie.spec
     (λ c κs. search needs)
-    (λ c κs. search needs)
+    put-lines-requires
     (λ c. search needs)
     returns
     first-that-requires-2

@@ -1,7 +1,7 @@
 use mathlib.Core.Path.{_∙_}
 use native.Mathlib.Omega.{arith}
 use borrow.Author.Needs.{needs}
-use Rattle.whole_screen.proofs.Lines.{three-parts}
+use Rattle.whole_screen.proofs.ByNumber.{three-parts}
 use Rattle.whole_screen.proofs.Filling.{whole-filled}
 use Rattle.whole_screen.proofs.put_scrolled.Statement.{statement}
 use Rattle.whole_screen.proofs.put_scrolled.Tie as tie

@@ -1,11 +1,19 @@
 -- Laws about a part of some bytes that is lent, of which something of its length comes back.
 use Prim.Native.Nat.{ℕ, _+_, _-_, _≤_}
 use mathlib.Core.Path.{_≡_, sym, ap, _∙_}
-use mathlib.Core.List.{List, _++_, append-assoc}
+use mathlib.Core.List.{List, _++_, append-assoc, append-nil}
 use native.Mathlib.Omega.{arith}
-use lib.ListN.{length, take, drop, length-append}
-use lib.Seq.{take-at, length-take-le}
+use lib.ListN.{length, take, drop, length-append, drop-of-length-le}
+use lib.Seq.{take-all, take-at, length-take-le}
 use borrow.Rule.Slice.PartMut.{midOf, putMid, mid-len, same-len-mid, drop-put}
+
+-- the part that is all
+pub all-lent : (bytes : List ℕ) (size : ℕ) → length bytes ≤ size → midOf 0 (size - 0) bytes ≡ bytes
+all-lent bytes size all = take-all (size - 0) bytes (omega arith)
+
+pub all-back : (bytes : List ℕ) (size : ℕ) (new : List ℕ) → length bytes ≤ size → putMid 0 (size - 0) bytes new ≡ new
+all-back bytes size new all =
+    ap (λ (rest : List ℕ). new ++ rest) (drop-of-length-le bytes {i = size - 0} (omega arith)) ∙ append-nil new
 
 module _ (bytes : List ℕ) (at size : ℕ) (room : at + size ≤ length bytes) where
   whole : at + size - at ≡ size

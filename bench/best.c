@@ -1,0 +1,263 @@
+#include "best.h"
+#include "plain.h"
+
+#include <string.h>
+
+enum { PLACES = 4096, PAIRS = 132 };
+
+#define TWICE(...) __VA_ARGS__, __VA_ARGS__
+#define FOUR(...) TWICE(__VA_ARGS__), TWICE(__VA_ARGS__)
+#define SIXTEEN(...) FOUR(__VA_ARGS__), FOUR(__VA_ARGS__), FOUR(__VA_ARGS__), FOUR(__VA_ARGS__)
+#define PAIR 0x20, 0x0E
+static const uint8_t blank[2 * PAIRS] = {
+    SIXTEEN(PAIR), SIXTEEN(PAIR), SIXTEEN(PAIR), SIXTEEN(PAIR), SIXTEEN(PAIR), SIXTEEN(PAIR), SIXTEEN(PAIR),
+    SIXTEEN(PAIR), FOUR(PAIR),
+};
+
+typedef struct {
+    unsigned link; /* as it stands in memory: a place over 4095 is wild */
+    unsigned kind;
+    bool dark;
+} head;
+
+static const head first_row = {0, 3, false}, dark_row = {0, 3, true};
+
+static unsigned capacity_of(unsigned columns, unsigned kind) { return (kind & 3) == 3 ? columns : columns / 2; }
+
+/* How many cells a row has ahead of its FF, or -1 where it is torn. */
+static int find_ff(const uint8_t *screen, unsigned start, unsigned capacity) {
+    unsigned left = PLACES - start, most = capacity + 1;
+    unsigned straight = left < most ? left : most;
+    const uint8_t *ff = memchr(screen + start, 0xFF, straight);
+    if (ff != NULL)
+        return (int)(ff - (screen + start));
+    ff = memchr(screen, 0xFF, most - straight);
+    return ff != NULL ? (int)(straight + (unsigned)(ff - screen)) : -1;
+}
+
+static head link_after(const uint8_t *screen, const uint8_t *attribute, unsigned ff) {
+    unsigned low = (ff + 1) % PLACES, high = (ff + 2) % PLACES;
+    head next = {screen[low] | (unsigned)screen[high] << 8, attribute[low] & 7u, false};
+    return next;
+}
+
+static void copy_pairs(const uint8_t *restrict screen, const uint8_t *restrict attribute, unsigned cells,
+                       uint8_t *restrict pair) {
+    for (unsigned cell = 0; cell < cells; cell++) {
+        pair[2 * cell] = screen[cell];
+        pair[2 * cell + 1] = attribute[cell] & 15;
+    }
+}
+
+static void copy_row(const uint8_t *screen, const uint8_t *attribute, unsigned start, unsigned cells, uint8_t *pair) {
+    unsigned left = PLACES - start;
+    unsigned straight = left < cells ? left : cells;
+    copy_pairs(screen + start, attribute + start, straight, pair);
+    if (straight < cells)
+        copy_pairs(screen, attribute, cells - straight, pair + 2 * straight);
+    memcpy(pair + 2 * cells, blank, 2 * (PAIRS - cells));
+}
+
+/* Draws one row, and says how many bytes of screen memory it read. */
+static unsigned draw_row(unsigned columns, const uint8_t *screen, const uint8_t *attribute, head *at, uint8_t *record) {
+    unsigned start = at->link % PLACES;
+    record[0] = (uint8_t)(start >> 8);
+    record[1] = (uint8_t)start;
+    record[RAINBOW_KIND_AT] = (uint8_t)at->kind;
+    if (at->dark) {
+        record[RAINBOW_COUNT_AT] = RAINBOW_DARK;
+        memcpy(record + RAINBOW_PAIRS_AT, blank, sizeof blank);
+        return 0;
+    }
+    unsigned capacity = capacity_of(columns, at->kind);
+    int ff = find_ff(screen, start, capacity);
+    unsigned cells = ff < 0 ? capacity : (unsigned)ff;
+    copy_row(screen, attribute, start, cells, record + RAINBOW_PAIRS_AT);
+    if (ff < 0) {
+        record[RAINBOW_COUNT_AT] = RAINBOW_TORN;
+        *at = dark_row;
+        return capacity + 1;
+    }
+    record[RAINBOW_COUNT_AT] = (uint8_t)cells;
+    *at = link_after(screen, attribute, start + cells);
+    return cells + 3;
+}
+
+rainbow_drawn best_draw(rainbow_machine machine, const uint8_t *screen, size_t screen_length, const uint8_t *attribute,
+                        size_t attribute_length, uint8_t *picture, size_t picture_length) {
+    rainbow_drawn drawn = {RAINBOW_REFUSED_LENGTH, 0, false, 0};
+    if (screen_length != RAINBOW_SCREEN_BYTES || attribute_length != RAINBOW_ATTRIBUTE_BYTES ||
+        picture_length != RAINBOW_PICTURE_BYTES)
+        return drawn;
+    head at = first_row;
+    unsigned columns = machine.columns132 ? 132 : 80, reads = 0;
+    for (int row = 0; row < RAINBOW_ROWS; row++) {
+        reads += draw_row(columns, screen, attribute, &at, picture + row * RAINBOW_RECORD_BYTES);
+        if (at.link >= PLACES && !drawn.wild) {
+            drawn.wild = true;
+            drawn.wild_row = (uint8_t)row;
+        }
+    }
+    drawn.refusal = RAINBOW_ACCEPTED;
+    drawn.reads = (uint16_t)reads;
+    return drawn;
+}
+
+/* Passes one row, and says whether it reads a place of one of the two memories. */
+static bool pass_row(unsigned columns, const uint8_t *screen, const uint8_t *attribute, head *at, bool beside,
+                     unsigned place) {
+    unsigned capacity = capacity_of(columns, at->kind), start = at->link % PLACES;
+    unsigned from = (place - start) % PLACES;
+    int ff = find_ff(screen, start, capacity);
+    if (ff < 0) {
+        *at = dark_row;
+        return from < capacity + !beside;
+    }
+    unsigned cells = (unsigned)ff;
+    *at = link_after(screen, attribute, start + cells);
+    return beside ? from < cells || from == cells + 1 : from < cells + 3;
+}
+
+/* Puts what was drawn in the place of what was kept, and says whether they differed. */
+static bool replace(uint8_t *restrict kept, const uint8_t *restrict drawn) {
+    if (memcmp(kept, drawn, RAINBOW_RECORD_BYTES) == 0)
+        return false;
+    memcpy(kept, drawn, RAINBOW_RECORD_BYTES);
+    return true;
+}
+
+rainbow_stored best_store_with_picture(rainbow_machine machine, uint8_t *shared, size_t shared_length, uint8_t *screen,
+                                       size_t screen_length, uint8_t *attribute, size_t attribute_length,
+                                       uint8_t *picture, size_t picture_length, uint32_t address, uint8_t byte) {
+    rainbow_stored stored = {RAINBOW_REFUSED_LENGTH, 0};
+    if (picture_length != RAINBOW_PICTURE_BYTES)
+        return stored;
+    if (machine.reset || address < 0xEE000 || address >= 0xF0000 || shared_length != RAINBOW_SHARED_BYTES ||
+        screen_length != RAINBOW_SCREEN_BYTES || attribute_length != RAINBOW_ATTRIBUTE_BYTES) {
+        stored.refusal = plain_store_8088(machine, shared, shared_length, screen, screen_length, attribute,
+                                          attribute_length, address, byte);
+        return stored;
+    }
+    unsigned columns = machine.columns132 ? 132 : 80, row = 0;
+    bool beside = address >= 0xEF000, found = false;
+    head at = first_row, before = at;
+    for (; !found && row < RAINBOW_ROWS && !at.dark; row += !found) {
+        before = at;
+        found = pass_row(columns, screen, attribute, &at, beside, address % PLACES);
+    }
+    if (!found)
+        row = RAINBOW_ROWS;
+    (beside ? attribute : screen)[address % PLACES] = byte;
+    stored.refusal = RAINBOW_ACCEPTED;
+    for (at = before; row < RAINBOW_ROWS; row++) {
+        uint8_t drawn[RAINBOW_RECORD_BYTES];
+        draw_row(columns, screen, attribute, &at, drawn);
+        if (replace(picture + row * RAINBOW_RECORD_BYTES, drawn))
+            stored.marks |= 1u << row;
+    }
+    return stored;
+}
+
+/* For each byte of a glyph its dots, FF where one is set: bit 7 first, then bit 0 again. Eighteen of them are enough
+ * for a narrow cell; a wide one has each twice. */
+enum { NARROW = 16, WIDE = 32 };
+#define BIT(g, b) ((g) >> (b) & 1 ? 0xFF : 0)
+#define EIGHT(g) BIT(g, 7), BIT(g, 6), BIT(g, 5), BIT(g, 4), BIT(g, 3), BIT(g, 2), BIT(g, 1), BIT(g, 0)
+#define EIGHT_TWICE(g) TWICE(BIT(g, 7)), TWICE(BIT(g, 6)), TWICE(BIT(g, 5)), TWICE(BIT(g, 4)), TWICE(BIT(g, 3)), \
+    TWICE(BIT(g, 2)), TWICE(BIT(g, 1)), TWICE(BIT(g, 0))
+#define ONE(g) {EIGHT(g), FOUR(BIT(g, 0)), FOUR(BIT(g, 0))}
+#define ONE_WIDE(g) {EIGHT_TWICE(g), SIXTEEN(BIT(g, 0))}
+#define EACH4(m, g) m(g), m((g) + 1), m((g) + 2), m((g) + 3)
+#define EACH16(m, g) EACH4(m, g), EACH4(m, (g) + 4), EACH4(m, (g) + 8), EACH4(m, (g) + 12)
+#define EACH64(m, g) EACH16(m, g), EACH16(m, (g) + 16), EACH16(m, (g) + 32), EACH16(m, (g) + 48)
+#define EACH256(m) EACH64(m, 0), EACH64(m, 64), EACH64(m, 128), EACH64(m, 192)
+static const uint8_t narrow_dots[256][NARROW] = {EACH256(ONE)};
+static const uint8_t wide_dots[256][WIDE] = {EACH256(ONE_WIDE)};
+
+static void shade_all(rainbow_machine machine, unsigned shown, uint8_t level[16], uint8_t set[16], uint8_t flip[16]) {
+    for (unsigned attribute = 0; attribute < 16; attribute++) {
+        level[attribute] = (uint8_t)(3 - (attribute >> 1 & 1) - (machine.blink & (~attribute >> 2 & 1)));
+        set[attribute] = (attribute & 8) == 0 && shown == 9 ? 0xFF : 0;
+        flip[attribute] = (attribute & 1) != (unsigned)machine.reverse ? 0xFF : 0;
+    }
+}
+
+uint8_t best_scan_line(rainbow_machine machine, const uint8_t *picture, size_t picture_length, const uint8_t *table,
+                       size_t table_length, size_t row, size_t scan, uint8_t *restrict line, size_t line_length) {
+    if (picture_length != RAINBOW_PICTURE_BYTES || table_length != RAINBOW_GLYPH_BYTES ||
+        line_length != RAINBOW_LINE_BYTES)
+        return RAINBOW_REFUSED_LENGTH;
+    if (row >= RAINBOW_ROWS || scan < RAINBOW_FIRST_SCAN || scan > RAINBOW_LAST_SCAN)
+        return RAINBOW_REFUSED_PLACE;
+    const uint8_t *record = picture + row * RAINBOW_RECORD_BYTES;
+    if ((machine.held & 2) == 0 || (machine.held & 4) != 0 || record[RAINBOW_COUNT_AT] == RAINBOW_DARK) {
+        memset(line, 0, RAINBOW_LINE_BYTES);
+        return RAINBOW_ACCEPTED;
+    }
+    unsigned kind = record[RAINBOW_KIND_AT] & 3, columns = machine.columns132 ? 132 : 80;
+    unsigned shown = (unsigned)scan;
+    if (kind == 0)
+        shown = shown / 2 + shown % 2 + 5;
+    else if (kind == 1)
+        shown = shown / 2 + shown % 2;
+    const uint8_t *glyphs = table + (shown + 14) % 16, *pair = record + RAINBOW_PAIRS_AT;
+    unsigned cells = capacity_of(columns, kind), dots = machine.columns132 ? 9 : 10;
+    uint8_t level[16], set[16], flip[16];
+    shade_all(machine, shown, level, set, flip);
+    /* Each cell is written with more dots than it has, which the next one overwrites; the last is written apart. */
+    uint8_t *dot = line, last[WIDE];
+    if (kind == 3) {
+        for (unsigned cell = 0; cell < cells; cell++) {
+            unsigned attribute = pair[2 * cell + 1] & 15;
+            uint8_t glyph = (uint8_t)((glyphs[pair[2 * cell] * 16u] | set[attribute]) ^ flip[attribute]);
+            uint8_t *into = cell + 1 < cells ? dot : last;
+            for (int i = 0; i < NARROW; i++)
+                into[i] = narrow_dots[glyph][i] & level[attribute];
+            dot += dots;
+        }
+    } else {
+        dots *= 2;
+        for (unsigned cell = 0; cell < cells; cell++) {
+            unsigned attribute = pair[2 * cell + 1] & 15;
+            uint8_t glyph = (uint8_t)((glyphs[pair[2 * cell] * 16u] | set[attribute]) ^ flip[attribute]);
+            uint8_t *into = cell + 1 < cells ? dot : last;
+            for (int i = 0; i < WIDE; i++)
+                into[i] = wide_dots[glyph][i] & level[attribute];
+            dot += dots;
+        }
+    }
+    memcpy(dot - dots, last, dots);
+    memset(dot, 0, (size_t)(line + RAINBOW_LINE_BYTES - dot));
+    return RAINBOW_ACCEPTED;
+}
+
+static bool scrolls(const uint8_t *picture, unsigned row) {
+    return (picture[row * RAINBOW_RECORD_BYTES + RAINBOW_KIND_AT] & 4) != 0;
+}
+
+#define ROW(r) r, 1, r, 2, r, 3, r, 4, r, 5, r, 6, r, 7, r, 8, r, 9, r, 10
+#define ROWS5(r) ROW(r), ROW(r + 1), ROW(r + 2), ROW(r + 3), ROW(r + 4)
+static const uint8_t all_lines[2 * 10 * RAINBOW_ROWS] = {ROWS5(0), ROWS5(5), ROWS5(10), ROWS5(15), ROWS5(20)};
+
+uint8_t best_list_lines(rainbow_machine machine, const uint8_t *picture, size_t picture_length, uint8_t *list,
+                        size_t list_length) {
+    if (picture_length != RAINBOW_PICTURE_BYTES || list_length != RAINBOW_LIST_BYTES)
+        return RAINBOW_REFUSED_LENGTH;
+    unsigned latch = machine.latch % 16u, first = 0;
+    if (latch > 9)
+        return RAINBOW_REFUSED_LATCH;
+    while (first < RAINBOW_ROWS && !scrolls(picture, first))
+        first++;
+    unsigned end = first;
+    while (end < RAINBOW_ROWS && scrolls(picture, end))
+        end++;
+    if (first == end || latch == 0) {
+        memcpy(list, all_lines, RAINBOW_LIST_BYTES);
+        return RAINBOW_ACCEPTED;
+    }
+    unsigned run = 20 * first, below = 20 * (end - 1);
+    memcpy(list, all_lines, run);
+    memcpy(list + run, all_lines + run + 2 * latch, below - run);
+    memcpy(list + below, all_lines + below + 20, RAINBOW_LIST_BYTES - below);
+    return RAINBOW_ACCEPTED;
+}
