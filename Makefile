@@ -301,12 +301,23 @@ target/host/libkit.a: kit-library
 		> target/host/kit.names
 	@objcopy --redefine-syms=target/host/kit.names target/library-kit/librainbow.a $@
 
-bench: library $(if $(KIT),target/host/libkit.a)
+# The best C is compiled a second time by a clang, the kit's own if it is there; its names get clang_ ahead.
+CLANG ?= $(firstword $(shell tools/kit compiler 2>/dev/null) $(shell command -v clang))
+target/host/best-clang.o: bench/best.c bench/best.h bench/plain.h include/rainbow.h
 	@mkdir -p target/host
-	@$(C) -O3 $(if $(KIT),-DWITH_KIT) bench/bench.c bench/plain.c bench/best.c target/library/librainbow.a \
-		$(if $(KIT),target/host/libkit.a) -o target/host/bench
-	@echo "rustc: $$(rustc --version); $(if $(KIT),kit: $$(rt version | head -n 1); )C: $$($(CC) --version | head -n 1)," \
-		"on $(MACHINE)"
+	@$(C) -E bench/best.c -o target/host/best.i
+	@$(CLANG) --target=$(MACHINE)-unknown-linux-gnu -std=c11 -O3 -fPIE -x cpp-output \
+		-c target/host/best.i -o $@
+	@nm -g --defined-only $@ | awk 'NF == 3 { print $$3, "clang_" $$3 }' > target/host/clang.names
+	@objcopy --redefine-syms=target/host/clang.names $@
+
+bench: library $(if $(KIT),target/host/libkit.a) $(if $(CLANG),target/host/best-clang.o)
+	@mkdir -p target/host
+	@$(C) -O3 $(if $(KIT),-DWITH_KIT) $(if $(CLANG),-DWITH_CLANG) bench/bench.c bench/plain.c bench/best.c \
+		target/library/librainbow.a $(if $(KIT),target/host/libkit.a) $(if $(CLANG),target/host/best-clang.o) \
+		-o target/host/bench
+	@echo "rustc: $$(rustc --version); $(if $(KIT),kit: $$(rt version | head -n 1); )C: $$($(CC) --version | head -n 1)" \
+		"$(if $(CLANG),and $$($(CLANG) --version | head -n 1) )on $(MACHINE)"
 	@echo
 	@bench/table target/host/bench
 

@@ -5,7 +5,8 @@
  *   bench times              a line for each job: nanoseconds of each side, best of many
  *   bench count SIDE JOB N   does the job N times and no more, for a tool that counts instructions
  *
- * With WITH_KIT the kit's library is a side too, each of its names with kit_ ahead, so that all are timed in one run.
+ * With WITH_KIT the kit's library is a side too, each of its names with kit_ ahead; with WITH_CLANG the best C as
+ * another compiler makes it, with clang_ ahead. So all are timed in one run.
  */
 #define _POSIX_C_SOURCE 199309L
 #include "best.h"
@@ -17,26 +18,36 @@
 #include <time.h>
 
 /* What a side is made of. */
+typedef rainbow_drawn draw_call(rainbow_machine, const uint8_t *, size_t, const uint8_t *, size_t, uint8_t *, size_t);
+typedef rainbow_stored store_call(rainbow_machine, uint8_t *, size_t, uint8_t *, size_t, uint8_t *, size_t, uint8_t *,
+                                  size_t, uint32_t, uint8_t);
+typedef uint8_t store_only_call(rainbow_machine, uint8_t *, size_t, uint8_t *, size_t, uint8_t *, size_t, uint32_t,
+                                uint8_t);
+typedef uint8_t scan_line_call(rainbow_machine, const uint8_t *, size_t, const uint8_t *, size_t, size_t, size_t,
+                               uint8_t *, size_t);
+typedef uint8_t list_lines_call(rainbow_machine, const uint8_t *, size_t, uint8_t *, size_t);
+
 typedef struct {
     const char *name;
-    rainbow_drawn (*draw)(rainbow_machine, const uint8_t *, size_t, const uint8_t *, size_t, uint8_t *, size_t);
-    rainbow_stored (*store)(rainbow_machine, uint8_t *, size_t, uint8_t *, size_t, uint8_t *, size_t, uint8_t *,
-                            size_t, uint32_t, uint8_t);
-    uint8_t (*store_only)(rainbow_machine, uint8_t *, size_t, uint8_t *, size_t, uint8_t *, size_t, uint32_t, uint8_t);
-    uint8_t (*scan_line)(rainbow_machine, const uint8_t *, size_t, const uint8_t *, size_t, size_t, size_t, uint8_t *,
-                         size_t);
-    uint8_t (*list_lines)(rainbow_machine, const uint8_t *, size_t, uint8_t *, size_t);
+    draw_call *draw;
+    store_call *store;
+    store_only_call *store_only;
+    scan_line_call *scan_line;
+    list_lines_call *list_lines;
 } side;
 
 #ifdef WITH_KIT
-rainbow_drawn kit_rainbow_draw(rainbow_machine, const uint8_t *, size_t, const uint8_t *, size_t, uint8_t *, size_t);
-rainbow_stored kit_rainbow_store_with_picture(rainbow_machine, uint8_t *, size_t, uint8_t *, size_t, uint8_t *, size_t,
-                                              uint8_t *, size_t, uint32_t, uint8_t);
-uint8_t kit_rainbow_store_8088(rainbow_machine, uint8_t *, size_t, uint8_t *, size_t, uint8_t *, size_t, uint32_t,
-                               uint8_t);
-uint8_t kit_rainbow_scan_line(rainbow_machine, const uint8_t *, size_t, const uint8_t *, size_t, size_t, size_t,
-                              uint8_t *, size_t);
-uint8_t kit_rainbow_list_lines(rainbow_machine, const uint8_t *, size_t, uint8_t *, size_t);
+draw_call kit_rainbow_draw;
+store_call kit_rainbow_store_with_picture;
+store_only_call kit_rainbow_store_8088;
+scan_line_call kit_rainbow_scan_line;
+list_lines_call kit_rainbow_list_lines;
+#endif
+#ifdef WITH_CLANG
+draw_call clang_best_draw;
+store_call clang_best_store_with_picture;
+scan_line_call clang_best_scan_line;
+list_lines_call clang_best_list_lines;
 #endif
 
 /* The first side is the one that the others are compared with. */
@@ -48,14 +59,36 @@ static const side sides[] = {
 #endif
     {"plain", plain_draw, plain_store_with_picture, plain_store_8088, plain_scan_line, plain_list_lines},
     {"best", best_draw, best_store_with_picture, plain_store_8088, best_scan_line, best_list_lines},
+#ifdef WITH_CLANG
+    {"best-clang", clang_best_draw, clang_best_store_with_picture, plain_store_8088, clang_best_scan_line,
+     clang_best_list_lines},
+#endif
 };
 
 enum { SIDES = sizeof sides / sizeof sides[0] };
 
+/* What is lent. Where memory stands changes what a processor makes of the same instructions, of one side more than of
+ * another by chance; so each batch has its own places, there and on the stack, the same for every side. */
+enum { ROOM = 16384 };
+static _Alignas(64) uint8_t room[7][ROOM];
+static uint8_t shared[RAINBOW_SHARED_BYTES];
+static uint8_t *screen, *attribute, *picture, *fresh, *table, *line, *lines;
+
+static void find_room(unsigned batch) {
+    uint8_t **lent[7] = {&screen, &attribute, &picture, &fresh, &table, &line, &lines};
+    for (unsigned i = 0; i < 7; i++)
+        *lent[i] = room[i] + 16 * (batch * (2 * i + 1) * 37 % 256);
+}
+
+#define SHARED shared, RAINBOW_SHARED_BYTES
+#define SCREEN screen, RAINBOW_SCREEN_BYTES
+#define ATTRIBUTE attribute, RAINBOW_ATTRIBUTE_BYTES
+#define PICTURE picture, RAINBOW_PICTURE_BYTES
+#define TABLE table, RAINBOW_GLYPH_BYTES
+#define LINE line, RAINBOW_LINE_BYTES
+#define LIST lines, RAINBOW_LIST_BYTES
+
 static rainbow_machine machine;
-static uint8_t shared[RAINBOW_SHARED_BYTES], screen[RAINBOW_SCREEN_BYTES], attribute[RAINBOW_ATTRIBUTE_BYTES];
-static uint8_t picture[RAINBOW_PICTURE_BYTES], fresh[RAINBOW_PICTURE_BYTES];
-static uint8_t table[RAINBOW_GLYPH_BYTES], line[RAINBOW_LINE_BYTES], lines[RAINBOW_LIST_BYTES];
 static volatile uint32_t answers; /* what the calls answered, so that none is left out and both sides can be compared */
 
 /* The screens, each at 80 or 132 columns and with rows of a kind, but for row 0, which is normal and does not scroll.
@@ -101,8 +134,8 @@ static void lay(layout screens, unsigned wanted, uint8_t kind, uint8_t latch) {
     machine.columns132 = wanted == 132;
     machine.held = 2;
     machine.latch = latch;
-    memset(screen, 0, sizeof screen);
-    memset(attribute, 0x0E, sizeof attribute);
+    memset(screen, 0, RAINBOW_SCREEN_BYTES);
+    memset(attribute, 0x0E, RAINBOW_ATTRIBUTE_BYTES);
     if (screens == TORN) {
         for (unsigned place = 0; place < 4096; place++)
             lay_cell(place);
@@ -117,22 +150,20 @@ static void lay(layout screens, unsigned wanted, uint8_t kind, uint8_t latch) {
     } else {
         lay_rows(screens, kind);
     }
-    for (unsigned at = 0; at < sizeof table; at++)
+    for (unsigned at = 0; at < RAINBOW_GLYPH_BYTES; at++)
         table[at] = (uint8_t)((at * 2654435761u) >> 13);
-    rainbow_draw(machine, screen, sizeof screen, attribute, sizeof attribute, picture, sizeof picture);
+    rainbow_draw(machine, SCREEN, ATTRIBUTE, PICTURE);
 }
 
 static void draw(const side *with) {
-    rainbow_drawn drawn =
-        with->draw(machine, screen, sizeof screen, attribute, sizeof attribute, picture, sizeof picture);
+    rainbow_drawn drawn = with->draw(machine, SCREEN, ATTRIBUTE, PICTURE);
     answers = answers * 31 + (drawn.reads * 32u + drawn.wild_row) * 2u + drawn.wild;
 }
 
 /* Stores two bytes in turn, so that each store changes memory. */
-static void store_in_turn(const side *with, unsigned place, uint8_t one, uint8_t other) {
-    uint8_t byte = screen[place] == one ? other : one;
-    rainbow_stored stored = with->store(machine, shared, sizeof shared, screen, sizeof screen, attribute,
-                                        sizeof attribute, picture, sizeof picture, 0xEE000 + place, byte);
+static void store_in_turn(const side *with, unsigned at, uint8_t one, uint8_t other) {
+    uint8_t byte = screen[at] == one ? other : one;
+    rainbow_stored stored = with->store(machine, SHARED, SCREEN, ATTRIBUTE, PICTURE, 0xEE000 + at, byte);
     answers = answers * 31 + stored.marks;
 }
 
@@ -153,9 +184,8 @@ static void store_link(const side *with) {
 static void redraw_and_compare(const side *with, unsigned place) {
     uint8_t byte = screen[place] == 'A' ? 'B' : 'A';
     uint32_t marks = 0;
-    with->store_only(machine, shared, sizeof shared, screen, sizeof screen, attribute, sizeof attribute,
-                     0xEE000 + place, byte);
-    with->draw(machine, screen, sizeof screen, attribute, sizeof attribute, fresh, sizeof fresh);
+    with->store_only(machine, SHARED, SCREEN, ATTRIBUTE, 0xEE000 + place, byte);
+    with->draw(machine, SCREEN, ATTRIBUTE, fresh, RAINBOW_PICTURE_BYTES);
     for (unsigned row = 0; row < RAINBOW_ROWS; row++) {
         size_t at = row * RAINBOW_RECORD_BYTES;
         if (memcmp(picture + at, fresh + at, RAINBOW_RECORD_BYTES) != 0) {
@@ -170,20 +200,25 @@ static void redraw_unread(const side *with) { redraw_and_compare(with, 4000); }
 static void redraw_row_23(const side *with) { redraw_and_compare(with, start_of[23] + 40); }
 
 static void scan_line(const side *with) {
-    answers += with->scan_line(machine, picture, sizeof picture, table, sizeof table, 5, 4, line, sizeof line);
+    answers += with->scan_line(machine, PICTURE, TABLE, 5, 4, LINE);
     answers += line[columns];
+}
+
+static void scan_line_blink(const side *with) {
+    machine.blink = true;
+    scan_line(with);
 }
 
 static void tube(const side *with) {
     for (unsigned row = 0; row < RAINBOW_ROWS_AT_REST; row++)
         for (unsigned scan = RAINBOW_FIRST_SCAN; scan <= RAINBOW_LAST_SCAN; scan++) {
-            with->scan_line(machine, picture, sizeof picture, table, sizeof table, row, scan, line, sizeof line);
+            with->scan_line(machine, PICTURE, TABLE, row, scan, LINE);
             answers = answers * 31 + line[row * 30];
         }
 }
 
 static void list(const side *with) {
-    answers += with->list_lines(machine, picture, sizeof picture, lines, sizeof lines);
+    answers += with->list_lines(machine, PICTURE, LIST);
     answers = answers * 31 + lines[RAINBOW_LINES];
 }
 
@@ -191,7 +226,7 @@ static void tube_by_list(const side *with) {
     list(with);
     for (unsigned at = 0; at < RAINBOW_LINES; at++) {
         unsigned row = lines[2 * at], scan = lines[2 * at + 1];
-        with->scan_line(machine, picture, sizeof picture, table, sizeof table, row, scan, line, sizeof line);
+        with->scan_line(machine, PICTURE, TABLE, row, scan, LINE);
         answers = answers * 31 + line[row * 30];
     }
 }
@@ -229,6 +264,8 @@ static const struct job {
     {"line-80-wide", FULL, 80, 6, 0, scan_line},
     {"line-132", FULL, 132, 3, 0, scan_line},
     {"line-132-wide", FULL, 132, 6, 0, scan_line},
+    {"line-80-blink", FULL, 80, 3, 0, scan_line_blink},
+    {"line-132-wide-blink", FULL, 132, 6, 0, scan_line_blink},
     {"line-dark", TORN, 80, 3, 0, scan_line},
     {"tube-80", FULL, 80, 3, 0, tube},
     {"tube-132", FULL, 132, 3, 0, tube},
@@ -255,18 +292,18 @@ static void differ(const char *job, const char *name) {
 
 /* All that a call can leave. */
 typedef struct {
-    uint8_t shared[sizeof shared], screen[sizeof screen], attribute[sizeof attribute], picture[sizeof picture];
-    uint8_t line[sizeof line], lines[sizeof lines];
+    uint8_t shared[RAINBOW_SHARED_BYTES], screen[RAINBOW_SCREEN_BYTES], attribute[RAINBOW_ATTRIBUTE_BYTES];
+    uint8_t picture[RAINBOW_PICTURE_BYTES], line[RAINBOW_LINE_BYTES], lines[RAINBOW_LIST_BYTES];
     uint32_t answers;
 } left_behind;
 
 static void keep(left_behind *left) {
-    memcpy(left->shared, shared, sizeof shared);
-    memcpy(left->screen, screen, sizeof screen);
-    memcpy(left->attribute, attribute, sizeof attribute);
-    memcpy(left->picture, picture, sizeof picture);
-    memcpy(left->line, line, sizeof line);
-    memcpy(left->lines, lines, sizeof lines);
+    memcpy(left->shared, shared, sizeof left->shared);
+    memcpy(left->screen, screen, sizeof left->screen);
+    memcpy(left->attribute, attribute, sizeof left->attribute);
+    memcpy(left->picture, picture, sizeof left->picture);
+    memcpy(left->line, line, sizeof left->line);
+    memcpy(left->lines, lines, sizeof left->lines);
     left->answers = answers;
 }
 
@@ -275,8 +312,8 @@ static void compare(const struct job *job) {
     static left_behind left[2];
     for (int s = 0; s < SIDES; s++) {
         lay_for(job);
-        memset(line, 0xA5, sizeof line);
-        memset(lines, 0xA5, sizeof lines);
+        memset(line, 0xA5, RAINBOW_LINE_BYTES);
+        memset(lines, 0xA5, RAINBOW_LIST_BYTES);
         answers = 0;
         job->once(&sides[s]);
         keep(&left[s > 0]);
@@ -304,20 +341,19 @@ static void mixed(const side *with, unsigned seed) {
         attribute[at] = (uint8_t)choose(256);
         table[at] = (uint8_t)choose(256);
     }
-    for (unsigned at = 0; at < sizeof picture; at++)
+    for (unsigned at = 0; at < RAINBOW_PICTURE_BYTES; at++)
         picture[at] = (uint8_t)choose(256);
     if (choose(4) != 0)
         draw(with);
     for (int i = 0; i < 4; i++) {
-        rainbow_stored stored =
-            with->store(machine, shared, sizeof shared, screen, sizeof screen - (choose(50) == 0), attribute,
-                        sizeof attribute, picture, sizeof picture, 0xEDFF0 + choose(0x2020), (uint8_t)choose(256));
+        size_t of_screen = RAINBOW_SCREEN_BYTES - (choose(50) == 0), of_line = RAINBOW_LINE_BYTES - (choose(50) == 0);
+        rainbow_stored stored = with->store(machine, SHARED, screen, of_screen, ATTRIBUTE, PICTURE,
+                                            0xEDFF0 + choose(0x2020), (uint8_t)choose(256));
         answers = answers * 31 + stored.marks * 16 + stored.refusal;
-        uint8_t refusal = with->scan_line(machine, picture, sizeof picture, table, sizeof table, choose(26),
-                                          choose(12), line, sizeof line - (choose(50) == 0));
+        uint8_t refusal = with->scan_line(machine, PICTURE, TABLE, choose(26), choose(12), line, of_line);
         answers = answers * 31 + refusal;
     }
-    answers = answers * 31 + with->list_lines(machine, picture, sizeof picture, lines, sizeof lines);
+    answers = answers * 31 + with->list_lines(machine, PICTURE, LIST);
 }
 
 static void compare_mixed(void) {
@@ -332,6 +368,18 @@ static void compare_mixed(void) {
         }
 }
 
+/* Does a job so many times, so many bytes further down the stack, and says how long one took. */
+static double time_batch(const struct job *job, const side *with, unsigned many, unsigned down) {
+    volatile uint8_t above[down];
+    above[0] = 0;
+    lay_for(job);
+    answers = above[0];
+    double begin = now();
+    for (unsigned i = 0; i < many; i++)
+        job->once(with);
+    return (now() - begin) / many;
+}
+
 /* The best of many batches, of about a millisecond each; the sides take turns. */
 static void time_job(const struct job *job) {
     double best[SIDES];
@@ -343,18 +391,15 @@ static void time_job(const struct job *job) {
     do
         job->once(&sides[0]), many++;
     while (now() - begin < 1e6);
-    for (int batch = 0; batch < BATCHES; batch++)
+    for (unsigned batch = 0; batch < BATCHES; batch++) {
+        find_room(batch);
         for (int s = 0; s < SIDES; s++) {
-            lay_for(job);
-            answers = 0;
-            begin = now();
-            for (unsigned i = 0; i < many; i++)
-                job->once(&sides[s]);
-            double each = (now() - begin) / many;
+            double each = time_batch(job, &sides[s], many, 16 + 16 * (batch * 11 % 64));
             if (batch == 0 || each < best[s])
                 best[s] = each;
             told[s] = answers;
         }
+    }
     printf("%s", job->name);
     for (int s = 0; s < SIDES; s++) {
         if (told[s] != told[0])
@@ -378,6 +423,7 @@ static int count_job(const char *which, const char *name, int many) {
 }
 
 int main(int words, char **word) {
+    find_room(0);
     if (words == 2 && strcmp(word[1], "times") == 0) {
         compare_mixed();
         for (int i = 0; i < JOBS; i++)

@@ -41,20 +41,28 @@ static head link_after(const uint8_t *screen, const uint8_t *attribute, unsigned
     return next;
 }
 
-static void copy_pairs(const uint8_t *restrict screen, const uint8_t *restrict attribute, unsigned cells,
+static void copy_pairs(const uint8_t *restrict screen, const uint8_t *restrict attribute, size_t cells,
                        uint8_t *restrict pair) {
-    for (unsigned cell = 0; cell < cells; cell++) {
+    for (size_t cell = 0; cell < cells; cell++) {
         pair[2 * cell] = screen[cell];
         pair[2 * cell + 1] = attribute[cell] & 15;
     }
 }
 
-static void copy_row(const uint8_t *screen, const uint8_t *attribute, unsigned start, unsigned cells, uint8_t *pair) {
-    unsigned left = PLACES - start;
-    unsigned straight = left < cells ? left : cells;
+/* Of a row that goes past the end of memory. Where it is made part of copy_row, gcc has too few registers for the rows
+ * that do not. */
+static __attribute__((noinline)) void copy_round(const uint8_t *screen, const uint8_t *attribute, unsigned start,
+                                                 unsigned cells, uint8_t *pair) {
+    unsigned straight = PLACES - start;
     copy_pairs(screen + start, attribute + start, straight, pair);
-    if (straight < cells)
-        copy_pairs(screen, attribute, cells - straight, pair + 2 * straight);
+    copy_pairs(screen, attribute, cells - straight, pair + 2 * straight);
+}
+
+static void copy_row(const uint8_t *screen, const uint8_t *attribute, unsigned start, unsigned cells, uint8_t *pair) {
+    if (cells <= PLACES - start)
+        copy_pairs(screen + start, attribute + start, cells, pair);
+    else
+        copy_round(screen, attribute, start, cells, pair);
     memcpy(pair + 2 * cells, blank, 2 * (PAIRS - cells));
 }
 
@@ -174,6 +182,15 @@ enum { NARROW = 16, WIDE = 32 };
 static const uint8_t narrow_dots[256][NARROW] = {EACH256(ONE)};
 static const uint8_t wide_dots[256][WIDE] = {EACH256(ONE_WIDE)};
 
+/* Puts the dots of a cell, each FF or 0, at a level. They are worked out apart, so that a compiler need not ask whether
+ * the line lies over the table. */
+static inline void put_dots(const uint8_t *dots, size_t many, uint8_t level, uint8_t *into) {
+    uint8_t shown[WIDE];
+    for (size_t i = 0; i < many; i++)
+        shown[i] = dots[i] & level;
+    memcpy(into, shown, many);
+}
+
 static void shade_all(rainbow_machine machine, unsigned shown, uint8_t level[16], uint8_t set[16], uint8_t flip[16]) {
     for (unsigned attribute = 0; attribute < 16; attribute++) {
         level[attribute] = (uint8_t)(3 - (attribute >> 1 & 1) - (machine.blink & (~attribute >> 2 & 1)));
@@ -211,8 +228,7 @@ uint8_t best_scan_line(rainbow_machine machine, const uint8_t *picture, size_t p
             unsigned attribute = pair[2 * cell + 1] & 15;
             uint8_t glyph = (uint8_t)((glyphs[pair[2 * cell] * 16u] | set[attribute]) ^ flip[attribute]);
             uint8_t *into = cell + 1 < cells ? dot : last;
-            for (int i = 0; i < NARROW; i++)
-                into[i] = narrow_dots[glyph][i] & level[attribute];
+            put_dots(narrow_dots[glyph], NARROW, level[attribute], into);
             dot += dots;
         }
     } else {
@@ -221,8 +237,7 @@ uint8_t best_scan_line(rainbow_machine machine, const uint8_t *picture, size_t p
             unsigned attribute = pair[2 * cell + 1] & 15;
             uint8_t glyph = (uint8_t)((glyphs[pair[2 * cell] * 16u] | set[attribute]) ^ flip[attribute]);
             uint8_t *into = cell + 1 < cells ? dot : last;
-            for (int i = 0; i < WIDE; i++)
-                into[i] = wide_dots[glyph][i] & level[attribute];
+            put_dots(wide_dots[glyph], WIDE, level[attribute], into);
             dot += dots;
         }
     }

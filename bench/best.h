@@ -1,5 +1,6 @@
 /* The same jobs in the best portable C that we can write: the C library's searches, copies and fills, tables, and loops
- * that a compiler does together. No intrinsics. The tests are those of plain.c. */
+ * that gcc and clang do together. No intrinsics. The tests are those of plain.c. Of what the two compilers make of it
+ * the quicker counts, job by job. */
 #ifndef BEST_H
 #define BEST_H
 

@@ -1,14 +1,12 @@
 // Port 0A, the diagnostic write port: it holds its byte, and the rising edges of bits 6 and 7 start
 // the copies between shadow and NVM.
-mod copies;
-
 ghost use mathlib.Core.Path.{_≡_};
 ghost use Prim.Native.Nat.{_%_};
 ghost use mathlib.Core.Bool.{_&&_};
 ghost use lib.Dec.{eqb};
 ghost use lib.ListN.{length};
 ghost use Rattle.diagnostic.specs.Diagnostic.{writeDiagnostic, writtenPort};
-use copies::copy;
+use lent::copy;
 use machine::Machine;
 use machine::Written;
 

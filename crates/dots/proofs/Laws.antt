@@ -1,16 +1,18 @@
 -- Laws about the shades of a cell's dots, and about what is the same of each number of a few.
 use Prim.Native.Nat.{ℕ, zero, suc, _+_, _≤_, _<_}
-use mathlib.Core.Path.{_≡_, refl, _∙_}
+use mathlib.Core.Path.{_≡_, refl, sym, _∙_}
 use mathlib.Core.List.{List, [], _∷_, append-nil}
-use mathlib.Core.Bool.{Bool, true, false, not, Bool·beq}
+use mathlib.Core.Bool.{Bool, true, false, cond, not, _&&_, Bool·beq}
 use native.Mathlib.Omega.{arith}
 use lib.ListN.{length, getD, drop, set, length-drop, length-set, drop-of-length-le}
 use lib.Seq.{getD-set-same, getD-set-other, sets, sets-eq}
+use lib.Dec.{eqb}
+use lib.Bits.{bitXor, xor-zero-l, xor-zero-r, xor-self}
 use borrow.Author.Count.{below-more}
 use borrow.Author.Needs.{needs}
 use Rattle.lent.proofs.Tests.{either}
 use Rattle.machine.specs.declared.Machine.{Machine}
-use Rattle.dots.specs.Attributes.{isBold, xor, lit, steady, shade}
+use Rattle.dots.specs.Attributes.{isReverse, isBold, isUnderlined, underlineScan, xor, lit, steady, intensity, shade}
 use Rattle.dots.specs.Inner.{ForEach}
 
 -- exclusive or as the code has it
@@ -24,10 +26,30 @@ xor-differ false false = refl
 pub steady-lit : (attribute : ℕ) → (1 ≤ steady attribute) × (steady attribute < 4)
 steady-lit attribute = either (λ (n : ℕ). (1 ≤ n) × (n < 4)) (isBold attribute) 3 2 (λ h. search needs) (λ h. search needs)
 
+pub less-than-steady : (blinks : Bool) (attribute : ℕ) → cond blinks 1 0 ≤ steady attribute
+less-than-steady blinks attribute =
+    either (λ (n : ℕ). n ≤ steady attribute) blinks 1 0 (λ h. steady-lit attribute .0) (λ h. omega arith)
+
 pub shade-small : (m : Machine) (attribute scan : ℕ) (dot : Bool) → shade m attribute scan dot < 4
 unfolding shade
 shade-small m attribute scan dot =
     either (λ (n : ℕ). n < 4) (lit m attribute scan dot) _ 0 (λ h. omega (arith, steady-lit attribute)) (λ h. search needs)
+
+-- a lit dot of the glyph and an unlit one are shown as what a lit dot shows and as 0, whichever is which; both as one of
+-- them where underline lights all
+pub shades-differ :
+    (m : Machine) (attribute scan : ℕ)
+    → cond (isUnderlined attribute && eqb scan underlineScan) 0 (intensity m attribute true)
+    ≡ bitXor (shade m attribute scan true) (shade m attribute scan false)
+unfolding shade
+shades-differ m attribute scan =
+    go (isUnderlined attribute && eqb scan underlineScan) (xor (isReverse attribute) (m .reverse)) (intensity m attribute true)
+  where
+    go : (underlined reverse : Bool) (shown : ℕ) → cond underlined 0 shown ≡ bitXor (cond (xor reverse true) shown 0) (cond (xor reverse underlined) shown 0)
+    go true true shown = sym (xor-self 0)
+    go true false shown = sym (xor-self shown)
+    go false true shown = sym (xor-zero-l shown)
+    go false false shown = sym (xor-zero-r shown)
 
 -- what is worked out of each number below another
 abbrev pub each : {A : Type 0} → (ℕ → A) → ℕ → List A

@@ -1,9 +1,12 @@
 // The dots of a cell: a glyph byte's eight bits and the fill after them, as the cell's attribute shows
 // them. Document 01, "Dots".
 ghost use mathlib.Core.Path.{_≡_};
-ghost use mathlib.Core.Bool.{true, false};
+ghost use mathlib.Core.Bool.{true, false, cond, _&&_};
 ghost use lib.ListN.{length};
-ghost use Rattle.dots.specs.Attributes.{lit, steady, intensity, shade};
+ghost use lib.Dec.{eqb};
+ghost use lib.Bits.{bitXor};
+ghost use Rattle.dots.specs.Attributes.{isUnderlined, underlineScan, lit, steady, blinks};
+ghost use Rattle.dots.specs.Attributes.{intensity, shade};
 ghost use Rattle.dots.specs.Cell.{narrowWidth, wideWidth};
 ghost use Rattle.dots.specs.Inner.{ForEach, halfWord, turnOf, unlitOf, wordBytes, widthOf};
 ghost use Rattle.dots.specs.Inner.{narrowBytes, wideBytes, cellBytes};
@@ -14,13 +17,19 @@ pub const ATTRIBUTES: usize = 16;
 // The scan of a glyph that underline lights.
 const UNDERLINE_SCAN: usize = 9;
 
+// Whether underline lights all dots.
+fn is_underlined(attribute: u8, scan: usize) -> bool
+    ensures { λ r. ⌜ r ≡ (isUnderlined attribute && eqb scan underlineScan) ⌝ }
+{
+    (attribute / 8 % 2 == 0) & (scan == UNDERLINE_SCAN)
+}
+
 // Whether a dot of the glyph is lit as the cell shows it. Underline comes ahead of reverse.
 fn is_lit(machine: Machine, attribute: u8, scan: usize, dot: bool) -> bool
     ensures { λ r. ⌜ r ≡ lit machine attribute scan dot ⌝ }
 {
-    let underline = (attribute / 8 % 2 == 0) & (scan == UNDERLINE_SCAN);
     let reverse = (attribute % 2 == 1) ^ machine.reverse;
-    reverse ^ (dot | underline)
+    reverse ^ (dot | is_underlined(attribute, scan))
 }
 
 // A lit dot that does not blink.
@@ -30,16 +39,30 @@ fn steady(attribute: u8) -> u8
     if attribute / 2 % 2 == 0 { 3 } else { 2 }
 }
 
+// What blinking takes off a lit dot.
+fn dimmed(machine: Machine, attribute: u8) -> u8
+    ensures { λ r. ⌜ r ≡ cond (blinks attribute && machine .blink) 1 0 ⌝ }
+{
+    if (attribute / 4 % 2 == 0) & machine.blink {
+        1
+    } else {
+        0
+    }
+}
+
+fn lit_intensity(machine: Machine, attribute: u8) -> u8
+    ensures { λ r. ⌜ r ≡ intensity machine attribute true ⌝ }
+{
+    steady(attribute) - dimmed(machine, attribute)
+}
+
+// What a lit dot shows is worked out for an unlit one too, so that only numbers are chosen between: a line asks this of
+// every attribute, and of a way around the work a compiler makes jumps.
 fn intensity_of(machine: Machine, attribute: u8, lit: bool) -> u8
     ensures { λ r. ⌜ r ≡ intensity machine attribute lit ⌝ }
 {
-    if !lit {
-        return 0;
-    }
-    if (attribute / 4 % 2 == 0) & machine.blink {
-        return steady(attribute) - 1;
-    }
-    steady(attribute)
+    let shown = lit_intensity(machine, attribute);
+    if lit { shown } else { 0 }
 }
 
 // How a cell shows a dot of its glyph.
@@ -47,6 +70,19 @@ fn shade(machine: Machine, attribute: u8, scan: usize, dot: bool) -> u8
     ensures { λ r. ⌜ r ≡ shade machine attribute scan dot ⌝ }
 {
     intensity_of(machine, attribute, is_lit(machine, attribute, scan, dot))
+}
+
+// By what the shade of a lit dot of the glyph differs from that of an unlit one: one of them is lit as the cell shows
+// them, and the other is not, unless underline lights both.
+fn turn_of(machine: Machine, attribute: u8, scan: usize) -> u8
+    ensures { λ r. ⌜ r ≡ bitXor (shade machine attribute scan true) (shade machine attribute scan false) ⌝ }
+{
+    let shown = lit_intensity(machine, attribute);
+    if is_underlined(attribute, scan) {
+        0
+    } else {
+        shown
+    }
 }
 
 // The four dots of each half of a glyph, its upper bit in the lowest byte: FF where a dot is lit.
@@ -96,16 +132,14 @@ pub fn halves(wide: bool) -> [u64; 16]
     if wide { WIDE_HALVES } else { NARROW_HALVES }
 }
 
-// For each attribute, by what the shade of a lit dot differs from that of an unlit one: the same in eight bytes.
+// For each attribute, its turn: the same in eight bytes.
 pub fn put_turns(machine: Machine, scan: usize, turns: &mut [u64; ATTRIBUTES])
     requires { ⌜ length (now turns) ≡ 16 ⌝ }
     ensures { λ _. ⌜ ForEach (turnOf machine scan) (now (turns .exit)) ⌝ }
 {
     let mut attribute = 0;
     while attribute < ATTRIBUTES {
-        let lit = shade(machine, attribute as u8, scan, true);
-        let unlit = shade(machine, attribute as u8, scan, false);
-        turns[attribute] = (lit ^ unlit) as u64 * 0x0101010101010101;
+        turns[attribute] = turn_of(machine, attribute as u8, scan) as u64 * 0x0101010101010101;
         attribute += 1;
     }
 }
@@ -176,8 +210,10 @@ fn draw_wide(
     requires { ⌜ length (now into) ≡ wideWidth columns132 ⌝ }
     ensures { λ _. ⌜ now (into .exit) ≡ wideBytes columns132 turn unlit glyph ⌝ }
 {
-    let four = halves[(glyph / 16) as usize] & turn ^ unlit;
-    let more = halves[(glyph % 16) as usize] & turn ^ unlit;
+    let upper = halves[(glyph / 16) as usize];
+    let lower = halves[(glyph % 16) as usize];
+    let four = upper & turn ^ unlit;
+    let more = lower & turn ^ unlit;
     put_word(four, &mut into[0..8]);
     put_word(more, &mut into[8..16]);
     let fill = (more / 0x100000000000000 % 256) as u8;

@@ -1,10 +1,11 @@
 -- Laws about a part of some bytes that is lent, of which something of its length comes back.
-use Prim.Native.Nat.{ℕ, _+_, _-_, _≤_}
+use Prim.Native.Nat.{ℕ, _+_, _-_, _≤_, _<_}
 use mathlib.Core.Path.{_≡_, sym, ap, _∙_}
 use mathlib.Core.List.{List, _++_, append-assoc, append-nil}
+use native.Mathlib.Numerals.{add-one}
 use native.Mathlib.Omega.{arith}
-use lib.ListN.{length, take, drop, length-append, drop-of-length-le}
-use lib.Seq.{take-all, take-at, length-take-le}
+use lib.ListN.{length, getD, take, drop, set, length-set, length-append, drop-of-length-le}
+use lib.Seq.{take-all, take-at, take-suc, take-suc-set, length-take-le}
 use borrow.Rule.Slice.PartMut.{midOf, putMid, mid-len, same-len-mid, drop-put}
 
 -- the part that is all
@@ -36,3 +37,20 @@ module _ (bytes : List ℕ) (at size : ℕ) (room : at + size ≤ length bytes) 
 
     pub part-left : drop (at + size) (putMid at (at + size - at) bytes new) ≡ drop (at + size) bytes
     part-left = drop-put at (at + size) bytes new (omega arith) room (same ∙ sym whole)
+
+-- bytes that are copied, up to one
+pub record Copied (from to : List ℕ) (at : ℕ) : Type 0 where
+  pub same : length from ≡ length to
+  pub put : take at to ≡ take at from
+
+module _ {from to : List ℕ} {at : ℕ} (c : Copied from to at) where
+  pub one-copied : at < length to → Copied from (set to at (getD from at 0)) (at + 1)
+  one-copied more =
+      record {
+        same = c .same ∙ sym (length-set to at (getD from at 0));
+        put =
+            rw (add-one at, take-suc-set to at (getD from at 0) (omega arith), take-suc from at 0 (omega (arith, c .same)), c .put);
+      }
+
+  pub all-copied : length to ≤ at → to ≡ from
+  all-copied all = sym (take-all at to (omega arith)) ∙ c .put ∙ take-all at from (omega (arith, c .same))

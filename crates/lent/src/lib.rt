@@ -1,9 +1,10 @@
 // What every call has in common: the lengths of the memories that a caller lends, the numbers of
-// refusal and their order, and the answer of a call that reads a byte. Document 01, "Lent memory" and
-// "Numbers of refusal"; document 02 has the numbers from 7 up.
+// refusal and their order, the answer of a call that reads a byte, and a copy of bytes. Document 01, "Lent
+// memory" and "Numbers of refusal"; document 02 has the numbers from 7 up.
 ghost use mathlib.Core.Path.{_≡_};
 ghost use mathlib.Core.Bool.{cond, _&&_};
 ghost use lib.Dec.{eqb};
+ghost use lib.ListN.{length};
 ghost use Rattle.lent.specs.Refusals.{accepted};
 ghost use Rattle.lent.specs.Answer.{byteRead, readRefused};
 ghost use Rattle.lent.specs.Inner.{winner};
@@ -112,4 +113,18 @@ pub fn read_refused(refusal: u8) -> ByteRead
     ensures { λ r. ⌜ r ≡ readRefused refusal ⌝ }
 {
     ByteRead { refusal, byte: 0 }
+}
+
+// Copies every byte of the one into the other.
+pub fn copy(from: &[u8], to: &mut [u8])
+    requires { ⌜ length (now from) ≡ length (now to) ⌝ }
+    ensures { λ _. ⌜ now (to .exit) ≡ now (from .entry) ⌝ }
+{
+    let bytes = to.len();
+    let from = &from[0..bytes];
+    let mut at = 0;
+    while at < bytes {
+        to[at] = from[at];
+        at += 1;
+    }
 }

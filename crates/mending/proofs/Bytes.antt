@@ -1,69 +1,47 @@
--- What was drawn is put in the place of what was kept, byte by byte: what holds after so many bytes, how it begins,
--- goes on and ends.
+-- What was drawn is compared with what was kept, byte by byte, and then put in its place: what holds after so many
+-- bytes, how it goes on and ends.
 use Prim.Native.Nat.{ℕ, _+_, _≤_, _<_}
-use mathlib.Core.Path.{_≡_, refl, sym, ap, _∙_}
+use mathlib.Core.Path.{_≡_, refl, sym, _∙_}
 use mathlib.Core.List.{List, [], _∷_, _++_, append-nil}
 use mathlib.Core.Bool.{Bool, true, false, cond, not, _||_}
 use native.Mathlib.Numerals.{add-one}
-use native.Mathlib.Nat.{add-zero}
 use native.Mathlib.Omega.{arith}
 use lib.ListN.{length, getD, take, drop, set, length-set, length-drop, take-append-drop, drop-of-length-le}
-use lib.Seq.{take-all, take-at, drop-at, take-suc, take-suc-set, drop-set-lt, drop-drop, getD-drop, length-take-le}
+use lib.Seq.{take-all, take-at, drop-at, take-suc, take-suc-set, length-take-le}
 use lib.Dec.{eqb}
 use borrow.Rule.Slice.PartMut.{midOf, putMid}
 use Rattle.records.specs.Record.{recordBytes}
 use Rattle.mending.specs.Mending.{sameBytes}
 use Rattle.mending.proofs.Same.{differ}
 
-pub record Replaced (before drawn kept : List ℕ) (changed : Bool) (at : ℕ) : Type 0 where
-  pub same : length kept ≡ length before
-  pub put : take at kept ≡ take at drawn
-  pub left : drop at kept ≡ drop at before
-  pub told : changed ≡ not (sameBytes (take at before) (take at drawn))
-
-pub none-replaced : {before drawn : List ℕ} → Replaced before drawn before false 0
-unfolding sameBytes
-none-replaced = record { same = refl; put = refl; left = refl; told = refl }
-
 same-test : (t : Bool) → cond t true false ≡ t
 same-test true = refl
 same-test false = refl
 
-module _
-    {before drawn kept : List ℕ}
-    {changed : Bool}
-    {at : ℕ}
-    (r : Replaced before drawn kept changed at)
-    (as-long : length drawn ≡ length before) where
-  at-left : (l : List ℕ) → getD (drop at l) 0 0 ≡ getD l at 0
-  at-left l = getD-drop at l 0 0 ∙ ap (λ (n : ℕ). getD l n 0) (add-zero at)
+pub record Compared (kept drawn : List ℕ) (differed : Bool) (at : ℕ) : Type 0 where
+  pub same : length drawn ≡ length kept
+  pub told : differed ≡ not (sameBytes (take at kept) (take at drawn))
 
-  pub one-replaced :
-      at < length before
-      → Replaced before drawn (set kept at (getD drawn at 0)) (changed || not (eqb (getD kept at 0) (getD drawn at 0))) (at + 1)
+pub none-compared : {kept drawn : List ℕ} → length drawn ≡ length kept → Compared kept drawn false 0
+unfolding sameBytes
+none-compared same = record { same = same; told = refl }
+
+module _ {kept drawn : List ℕ} {differed : Bool} {at : ℕ} (c : Compared kept drawn differed at) where
+  pub one-compared :
+      at < length kept → Compared kept drawn (differed || not (eqb (getD kept at 0) (getD drawn at 0))) (at + 1)
   unfolding sameBytes
-  one-replaced more =
-      let old = getD before at 0 in
-      let new = getD drawn at 0 in
-      let kept-at : getD kept at 0 ≡ old = sym (at-left kept) ∙ ap (λ (l : List ℕ). getD l 0 0) (r .left) ∙ at-left before in
-      let more-differ =
-      differ (take at before) (take at drawn) (old ∷ []) (new ∷ [])
-      (length-take-le at before (omega arith) ∙ sym (length-take-le at drawn (omega arith))) in
+  one-compared more =
+      let one =
+      differ (take at kept) (take at drawn) (getD kept at 0 ∷ []) (getD drawn at 0 ∷ [])
+      (length-take-le at kept (omega arith) ∙ sym (length-take-le at drawn (omega (arith, c .same)))) in
       record {
-        same = simp length-set (r .same);
-        put =
-            rw (add-one at, take-suc-set kept at new (omega (arith, r .same)), take-suc drawn at 0 (omega arith), r .put);
-        left = drop-set-lt (at + 1) kept at new (omega arith) ∙ sym (drop-drop 1 at kept) ∙ ap (drop 1) (r .left) ∙ drop-drop 1 at before;
+        same = c .same;
         told =
-            rw (add-one at, take-suc before at 0 (omega arith), take-suc drawn at 0 (omega arith), more-differ, same-test, kept-at, r .told);
+            rw (add-one at, take-suc kept at 0 (omega arith), take-suc drawn at 0 (omega (arith, c .same)), one, same-test, c .told);
       }
 
-  pub all-replaced : length before ≤ at → (changed ≡ not (sameBytes before drawn)) × (kept ≡ drawn)
-  all-replaced all =
-      let whole = take-all at drawn (omega arith) in (
-        rw (← take-all at before (omega arith), ← whole) (r .told),
-        sym (take-all at kept (omega (arith, r .same))) ∙ r .put ∙ whole,
-      )
+  pub all-compared : length kept ≤ at → differed ≡ not (sameBytes kept drawn)
+  all-compared all = rw (← take-all at kept (omega arith), ← take-all at drawn (omega (arith, c .same))) (c .told)
 
 -- a record whose header is replaced, and then its pairs
 pub both-replaced :

@@ -1,6 +1,6 @@
 -- Laws about the test of two records byte by byte.
 use Prim.Native.Nat.{ℕ}
-use mathlib.Core.Path.{_≡_, refl}
+use mathlib.Core.Path.{_≡_, refl, sym, ap, _∙_}
 use mathlib.Core.List.{List, [], _∷_, _++_}
 use mathlib.Core.Bool.{Bool, true, false, cond, not, _||_, false≢true}
 use native.Mathlib.Nat.{suc-inj}
@@ -40,3 +40,19 @@ differ (x ∷ xs) (y ∷ ys) v w e =
     go : (t all a b : Bool) → not all ≡ (not a || b) → not (cond t all false) ≡ (not (cond t a false) || b)
     go true all a b later = later
     go false all a b later = refl
+
+-- bytes of which a test says that they do not differ, or that they do
+module _ (xs ys : List ℕ) {differed : Bool} (e : differed ≡ not (sameBytes xs ys)) where
+  pub the-same : not differed ≡ true → (false ≡ not (sameBytes xs ys)) × (xs ≡ ys)
+  the-same n = go (sameBytes xs ys) (sym (ap not e) ∙ n) (same-true xs ys)
+    where
+      go : (b : Bool) → not (not b) ≡ true → (b ≡ true → xs ≡ ys) → (false ≡ not b) × (xs ≡ ys)
+      go true h k = (refl, k refl)
+      go false h k = absurd (false≢true h)
+
+  pub not-the-same : not differed ≡ false → true ≡ not (sameBytes xs ys)
+  not-the-same n = go differed n ∙ e
+    where
+      go : (b : Bool) → not b ≡ false → true ≡ b
+      go true h = refl
+      go false h = absurd (false≢true (sym h))

@@ -2,7 +2,7 @@
 use Prim.Native.Nat.{ℕ, _+_, _-_, _*_, _≤_, _<_}
 use mathlib.Core.Path.{_≡_, refl, sym, ap, _∙_}
 use mathlib.Core.List.{List}
-use mathlib.Core.Bool.{false}
+use mathlib.Core.Bool.{Bool, false, not}
 use native.Mathlib.Numerals.{add-one}
 use native.Mathlib.Omega.{arith}
 use lib.ListN.{length, take, drop}
@@ -12,7 +12,7 @@ use borrow.Author.Tests.{lt-ltb, le-ltb}
 use borrow.Rule.Slice.PartMut.{midOf, putMid}
 use Rattle.lent.specs.Lengths.{pictureBytes}
 use Rattle.chain.specs.Chain.{Chain, rows, rowAt}
-use Rattle.chain.specs.Inner.{rowAhead, aheadOf}
+use Rattle.chain.specs.Inner.{rowAhead, aheadAfter, aheadOf}
 use Rattle.chain.specs.declared.Ahead.{Ahead}
 use Rattle.chain.proofs.Laws.{ahead-leads}
 use Rattle.records.specs.Record.{recordBytes, recordPairs}
@@ -22,9 +22,7 @@ use Rattle.picture.proofs.Records.{same-records, own-records, record-back, reco
 use Rattle.marks.specs.Marks.{marked, marksTo}
 use Rattle.marks.proofs.Laws.{none-marked}
 use Rattle.readers.specs.Inner.{Comes}
-use Rattle.mending.specs.Mending.{mendedRecord, mended, changed, marksOf}
-use Rattle.mending.specs.Inner.{rowMended}
-use Rattle.mending.specs.declared.RowMended.{RowMended}
+use Rattle.mending.specs.Mending.{mendedRecord, mended, sameBytes, changed, marksOf}
 use Rattle.mending.proofs.Laws.{record-of, unmarked}
 
 pub record Mending (c : Chain) (f : ℕ) (old picture : List ℕ) (ahead : Ahead) (marks row : ℕ) : Type 0 where
@@ -66,31 +64,32 @@ module _ (c : Chain) (f : ℕ) (old : List ℕ) (wide : c .columns ≤ recordPai
         rw (part, m .left)
 
     now-marked :
-        {one : RowMended} {next : ℕ}
-        → one ≡ rowMended c ahead (midOf (row * recordBytes) (row * recordBytes + recordBytes - row * recordBytes) picture)
-        → next ≡ marked marks row (one .changed) → next ≡ marksTo (changed old (mended c f old)) (row + 1)
+        {new : List ℕ} {differed : Bool} {next : ℕ} → new ≡ drawnAhead c ahead
+        → differed ≡ not (sameBytes (midOf (row * recordBytes) (row * recordBytes + recordBytes - row * recordBytes) picture) new)
+        → next ≡ marked marks row differed → next ≡ marksTo (changed old (mended c f old)) (row + 1)
     unfolding marksTo
-    now-marked e n =
-        let new : recordIn (mended c f old) row ≡ recordAt c row = record-of c f old wide long row more ∙ rw from-f in
-        rw (n, e, kept, is-row, add-one row, new, m .told)
+    now-marked e d n =
+        let drawn : recordIn (mended c f old) row ≡ recordAt c row = record-of c f old wide long row more ∙ rw from-f in
+        rw (n, d, e, kept, is-row, add-one row, drawn, m .told)
 
     pub mend-goes-on :
-        {one : RowMended} {new : List ℕ} {next : ℕ}
+        {drawn new : List ℕ} {differed : Bool} {next : ℕ} {then : Ahead}
         → let at = row * recordBytes in
         let part = at + recordBytes - at in
-        one ≡ rowMended c ahead (midOf at part picture) → new ≡ drawnAhead c ahead → length new ≡ recordBytes
-        → next ≡ marked marks row (one .changed)
-        → Mending c f old (putMid at part picture new) (one .next) next (row + 1)
+        drawn ≡ drawnAhead c ahead → length drawn ≡ recordBytes → then ≡ aheadAfter c (rowAhead c ahead)
+        → (differed ≡ not (sameBytes (midOf at part picture) drawn)) × (new ≡ drawn) → next ≡ marked marks row differed
+        → Mending c f old (putMid at part picture new) then next (row + 1)
     unfolding inOrder aheadOf
-    mend-goes-on {one} {new} {next} e r same n =
+    mend-goes-on {new = new} r size l p n =
         let after : (row + 1) * recordBytes ≡ row * recordBytes + recordBytes = omega arith in
+        let same : length new ≡ recordBytes = rw (p .1) size in
         record {
           after = omega (arith, m .after);
           within = omega arith;
           same = record-back picture new row (m .same) more same;
-          comes = λ h. rw (add-one row, e, is-row);
-          told = now-marked {one = one} {next = next} e n;
-          put = rw (record-put picture new row (m .same) more same, m .put, add-one row, from-f, r, is-row);
+          comes = λ h. rw (add-one row, l, is-row);
+          told = now-marked r (p .0) n;
+          put = rw (record-put picture new row (m .same) more same, m .put, add-one row, from-f, p .1, r, is-row);
           left =
               record-left picture new row (m .same) more same
               ∙ rw (after, ← drop-drop recordBytes (row * recordBytes) picture, m .left)

@@ -6,14 +6,10 @@ ghost use mathlib.Core.Bool.{not};
 ghost use lib.ListN.{length};
 ghost use Rattle.lent.specs.Lengths.{screenBytes, attributeBytes, pictureBytes};
 ghost use Rattle.chain.specs.Chain.{chain, rows};
-ghost use Rattle.chain.specs.Inner.{Placed};
 ghost use Rattle.records.specs.Record.{recordBytes, recordPairs};
-ghost use Rattle.records.specs.Inner.{drawnAhead};
 ghost use Rattle.readers.specs.Inner.{Comes};
 ghost use Rattle.mending.specs.Mending.{mended, sameBytes, marksOf};
 ghost use Rattle.mending.specs.Store.{lengthsWithPicture, storedWithPicture, storeWithPicture};
-ghost use Rattle.mending.specs.Inner.{rowMended};
-use chain::Ahead;
 use machine::Machine;
 use readers::Reader;
 
@@ -24,55 +20,45 @@ pub struct Stored {
     pub marks: u32,
 }
 
-// A row whose record was drawn again: whether that changed it, and what the chain leads to.
-struct RowMended {
-    changed: bool,
-    next: Ahead,
+// Whether two parts of the same length differ. The loop has no way out but its end, so that the bytes can be compared
+// together.
+fn differ(kept: &[u8], drawn: &[u8]) -> bool
+    requires { ⌜ length (now drawn) ≡ length (now kept) ⌝ }
+    ensures { λ r. ⌜ r ≡ not (sameBytes (now (kept .entry)) (now (drawn .entry))) ⌝ }
+{
+    let bytes = kept.len();
+    let drawn = &drawn[0..bytes];
+    let mut differ = false;
+    let mut at = 0;
+    while at < bytes {
+        differ = differ | (kept[at] != drawn[at]);
+        at += 1;
+    }
+    differ
 }
 
-// Puts what was drawn in the place of what was kept, and says whether they differed. The loop has no way out but its
-// end, so that the bytes can be done together.
+// Puts what was drawn in the place of what was kept, and says whether they differed. Most records come out as they
+// were, and are not written.
 fn replace(kept: &mut [u8], drawn: &[u8]) -> bool
     requires { ⌜ length (now drawn) ≡ length (now kept) ⌝ }
     ensures { λ r. ⌜ r ≡ not (sameBytes (now (kept .entry)) (now (drawn .entry))) ⌝ }
     ensures { λ _. ⌜ now (kept .exit) ≡ now (drawn .entry) ⌝ }
 {
-    let bytes = kept.len();
-    let drawn = &drawn[0..bytes];
-    let mut changed = false;
-    let mut at = 0;
-    while at < bytes {
-        let byte = drawn[at];
-        changed = changed | (kept[at] != byte);
-        kept[at] = byte;
-        at += 1;
+    if !differ(kept, drawn) {
+        return false;
     }
-    changed
+    lent::copy(drawn, kept);
+    true
 }
 
-// The row that lies ahead is drawn apart from what is kept of it: `drawn` is room for that, of any bytes. The header
-// and the pairs are compared apart, so that bytes just written are read again in the pieces in which they were written:
-// a processor waits for those that it has to put together.
-fn mend_row(
-    columns: usize,
-    screen: &[u8],
-    attribute: &[u8],
-    ahead: Ahead,
-    kept: &mut [u8],
-    drawn: &mut [u8; records::RECORD_BYTES],
-) -> RowMended
-    requires { ⌜ length (now screen) ≡ screenBytes ⌝ }
-    requires { ⌜ length (now attribute) ≡ attributeBytes ⌝ }
-    requires { ⌜ (columns ≤ recordPairs) × Placed ahead ⌝ }
+// The same for a record. Its header and its pairs are compared apart, so that bytes just written are read again in the
+// pieces in which they were written: a processor waits for those that it has to put together.
+fn replace_record(kept: &mut [u8], drawn: &[u8]) -> bool
     requires { ⌜ length (now kept) ≡ recordBytes ⌝ }
-    ensures { λ r. ⌜ r
-        ≡ rowMended (chain columns (now (screen .entry)) (now (attribute .entry))) ahead (now (kept .entry)) ⌝ }
-    ensures { λ _. ⌜ now (kept .exit)
-        ≡ drawnAhead (chain columns (now (screen .entry)) (now (attribute .entry))) ahead ⌝ }
+    requires { ⌜ length (now drawn) ≡ recordBytes ⌝ }
+    ensures { λ r. ⌜ r ≡ not (sameBytes (now (kept .entry)) (now (drawn .entry))) ⌝ }
+    ensures { λ _. ⌜ now (kept .exit) ≡ now (drawn .entry) ⌝ }
 {
-    let walked = records::draw_ahead(columns, screen, attribute, ahead, drawn);
-    let next = walked.next;
-    let drawn = &drawn[..];
     let head = replace(
         &mut kept[0..records::HEAD_BYTES],
         &drawn[0..records::HEAD_BYTES],
@@ -81,13 +67,11 @@ fn mend_row(
         &mut kept[records::HEAD_BYTES..records::RECORD_BYTES],
         &drawn[records::HEAD_BYTES..records::RECORD_BYTES],
     );
-    RowMended {
-        changed: head | pairs,
-        next,
-    }
+    head | pairs
 }
 
-// Mends the picture from a row on, and marks the rows whose record changed.
+// Mends the picture from a row on, and marks the rows whose record changed. Each row is drawn apart from what is kept
+// of it, in room that is made once.
 fn mend(columns: usize, screen: &[u8], attribute: &[u8], first: Reader, picture: &mut [u8]) -> u32
     requires { ⌜ length (now screen) ≡ screenBytes ⌝ }
     requires { ⌜ length (now attribute) ≡ attributeBytes ⌝ }
@@ -102,6 +86,10 @@ fn mend(columns: usize, screen: &[u8], attribute: &[u8], first: Reader, picture:
         ≡ mended (chain columns (now (screen .entry)) (now (attribute .entry))) (first .row)
         (now (picture .entry)) ⌝ }
 {
+    // Where no row reads the byte, room is not even made.
+    if first.row >= chain::ROWS {
+        return 0;
+    }
     let mut drawn = [0u8; records::RECORD_BYTES];
     let mut ahead = first.ahead;
     let mut row = first.row;
@@ -109,16 +97,10 @@ fn mend(columns: usize, screen: &[u8], attribute: &[u8], first: Reader, picture:
     while row < chain::ROWS {
         let at = row * records::RECORD_BYTES;
         let end = at + records::RECORD_BYTES;
-        let mended = mend_row(
-            columns,
-            screen,
-            attribute,
-            ahead,
-            &mut picture[at..end],
-            &mut drawn,
-        );
-        marks = marks::mark(marks, row, mended.changed);
-        ahead = mended.next;
+        let walked = records::draw_ahead(columns, screen, attribute, ahead, &mut drawn);
+        let changed = replace_record(&mut picture[at..end], &drawn);
+        marks = marks::mark(marks, row, changed);
+        ahead = walked.next;
         row += 1;
     }
     marks

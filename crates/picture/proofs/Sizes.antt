@@ -8,7 +8,8 @@ use Rattle.chain.specs.Chain.{Chain, Row, Whole, Torn, Dark, rows, rowAt}
 use Rattle.chain.specs.Reading.{reads}
 use Rattle.chain.proofs.Laws.{capacity-within}
 use Rattle.chain.proofs.Reading.{reads-at}
-use Rattle.records.specs.Record.{cellPairs, fillPairs, cellsShown, recordOf}
+use Rattle.records.specs.Record.{cellPairs, cellsShown, recordOf}
+use Rattle.records.proofs.Cells.{fill-length}
 use Rattle.picture.specs.Picture.{recordAt}
 use Rattle.picture.specs.Sizes.{RecordsSized, PictureSized}
 use Rattle.picture.proofs.Records.{records-length}
@@ -18,11 +19,6 @@ unfolding cellPairs
 cells-length screen attribute start zero = refl
 cells-length screen attribute start (suc cell) =
     rw (length-append, cells-length screen attribute start cell) (omega arith)
-
-fill-length : (n : ℕ) → length (fillPairs n) ≡ 2 * n
-unfolding fillPairs
-fill-length zero = refl
-fill-length (suc n) = rw (length-append, fill-length n) (omega arith)
 
 shown-fit : (c : Chain) (row : Row) → reads c row ≤ c .columns + 3 → cellsShown c row ≤ c .columns
 unfolding reads

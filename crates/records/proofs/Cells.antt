@@ -1,15 +1,15 @@
 -- The pairs of a row's cells are written in two parts, and then the pairs after them: what holds after so many, how it
 -- begins, goes on and ends.
 use Prim.Native.Nat.{ℕ, zero, suc, _+_, _-_, _*_, _%_, _≤_, _<_, min}
-use mathlib.Core.Path.{_≡_, refl, sym, _∙_, ap}
+use mathlib.Core.Path.{_≡_, refl, sym, _∙_, ap, ap₂}
 use mathlib.Core.List.{List, [], _∷_, _++_, append-assoc, append-nil}
 use native.Mathlib.Nat.{add-zero, add-suc}
 use native.Mathlib.Numerals.{add-one}
 use native.Mathlib.Omega.{arith}
-use lib.ListN.{length, getD, take, drop, set, length-set, length-drop, length-append}
-use lib.Seq.{take-all, take-at}
+use lib.ListN.{length, getD, take, drop, set, length-set, length-drop, length-append, take-append-drop, drop-of-length-le}
+use lib.Seq.{take-all, take-at, drop-at, drop-drop}
 use borrow.Rule.Slice.PartMut.{midOf, putMid, mid-len, same-len-mid}
-use Rattle.lent.proofs.Parts.{part-lent, part-put}
+use Rattle.lent.proofs.Parts.{part-lent, part-put, part-left}
 use Rattle.chain.specs.Chain.{places}
 use Rattle.chain.proofs.Searching.{Part, one-is, two-is, one-long, two-long}
 use Rattle.records.specs.Record.{recordBytes, headBytes, recordPairs, cellPairs, fillPairs}
@@ -117,6 +117,24 @@ module _ {screen attribute pairs : List ℕ} {start cells n : ℕ} (h : Halved s
         let lent = mid-len 0 (2 * n) pairs (omega (arith, h .same, h .straight-on)) in
         same-len-mid 0 (2 * n - 0) pairs new (new-long ∙ omega (arith, lent)) ∙ h .same
 
+    ones-put : take (2 * n) (partly new) ≡ cellPairs screen attribute start n
+    unfolding cellPairs
+    ones-put =
+        let first =
+        part-pairs screen attribute start 0 (ones screen) (ones attribute) (one-is screen start cells n (h .s) (h .under) fits (h .straight-on))
+        (one-is attribute start cells n (h .a) (h .under) fits (h .straight-on)) (ones-long attribute (h .a) ∙ sym (ones-long screen (h .s)))
+        (length (ones screen)) (omega arith) in
+        let all : 0 + length (ones screen) ≡ n = omega (arith, ones-long screen (h .s)) in
+        take-at new (drop (2 * n - 0) pairs) (2 * n) new-long ∙ is ∙ sym first ∙ ap (cellPairs screen attribute start) all
+
+    ones-left : drop (2 * n) (partly new) ≡ drop (2 * n) pairs
+    ones-left =
+        let whole : 2 * n - 0 ≡ 2 * n = omega arith in
+        drop-at new (drop (2 * n - 0) pairs) (2 * n) new-long ∙ ap (λ (k : ℕ). drop k pairs) whole
+
+    pub ones-all : partly new ≡ cellPairs screen attribute start n ++ drop (2 * n) pairs
+    ones-all = sym (take-append-drop (2 * n) (partly new)) ∙ ap₂ (λ (l m : List ℕ). l ++ m) ones-put ones-left
+
     room : 2 * n + 2 * (cells - n) ≤ length (partly new)
     room = omega (arith, partly-long, h .straight-on)
 
@@ -124,71 +142,90 @@ module _ {screen attribute pairs : List ℕ} {start cells n : ℕ} (h : Halved s
     room-left =
         part-lent (partly new) (2 * n) (2 * (cells - n)) room ∙ ap (λ (k : ℕ). 2 * k) (sym (twos-long screen (h .s)))
 
-    pub cells-put :
-        {more : List ℕ} → more ≡ pairsIn (twos screen) (twos attribute) (length (twos screen))
-        → take (2 * cells) (wholly new more) ≡ cellPairs screen attribute start cells
-    unfolding cellPairs
-    cells-put {more} more-is =
-        let more-long =
-        ap length more-is ∙ pairs-long (twos screen) (twos attribute) (length (twos screen))
-        ∙ ap (λ (k : ℕ). 2 * k) (twos-long screen (h .s)) in
-        let both : 2 * cells ≡ 2 * n + 2 * (cells - n) = omega (arith, h .straight-on) in
-        let first =
-        part-pairs screen attribute start 0 (ones screen) (ones attribute) (one-is screen start cells n (h .s) (h .under) fits (h .straight-on))
-        (one-is attribute start cells n (h .a) (h .under) fits (h .straight-on)) (ones-long attribute (h .a) ∙ sym (ones-long screen (h .s)))
-        (length (ones screen)) (omega arith) in
-        let second =
-        part-pairs screen attribute start n (twos screen) (twos attribute) (two-is screen start cells n (h .s) (h .under) fits (h .straight-on))
-        (two-is attribute start cells n (h .a) (h .under) fits (h .straight-on)) (twos-long attribute (h .a) ∙ sym (twos-long screen (h .s)))
-        (length (twos screen)) (omega arith) in
-        let all-first : 0 + length (ones screen) ≡ n = omega (arith, ones-long screen (h .s)) in
-        let all : n + length (twos screen) ≡ cells = omega (arith, twos-long screen (h .s), h .straight-on) in
-        ap (λ (k : ℕ). take k (wholly new more)) both
-        ∙ part-put (partly new) (2 * n) (2 * (cells - n)) room more more-long
-        ∙ ap (λ (l : List ℕ). l ++ more) (take-at new (drop (2 * n - 0) pairs) (2 * n) new-long ∙ is ∙ sym first ∙ ap (cellPairs screen attribute start) all-first)
-        ∙ ap (λ (l : List ℕ). cellPairs screen attribute start n ++ l) more-is ∙ sym second
-        ∙ ap (cellPairs screen attribute start) all
+    module _ {more : List ℕ} (more-is : more ≡ pairsIn (twos screen) (twos attribute) (length (twos screen))) where
+      more-long : length more ≡ 2 * (cells - n)
+      more-long =
+          ap length more-is ∙ pairs-long (twos screen) (twos attribute) (length (twos screen))
+          ∙ ap (λ (k : ℕ). 2 * k) (twos-long screen (h .s))
 
--- the pairs after the cells, written up to `pair`
-pub record Filled (before : List ℕ) (cells : ℕ) (drawn : List ℕ) (pair : ℕ) : Type 0 where
-  pub after : cells ≤ pair
+      both : 2 * n + 2 * (cells - n) ≡ 2 * cells
+      both = omega (arith, h .straight-on)
+
+      twos-put : take (2 * n + 2 * (cells - n)) (wholly new more) ≡ cellPairs screen attribute start cells
+      twos-put =
+          let second =
+          part-pairs screen attribute start n (twos screen) (twos attribute) (two-is screen start cells n (h .s) (h .under) fits (h .straight-on))
+          (two-is attribute start cells n (h .a) (h .under) fits (h .straight-on)) (twos-long attribute (h .a) ∙ sym (twos-long screen (h .s)))
+          (length (twos screen)) (omega arith) in
+          let all : n + length (twos screen) ≡ cells = omega (arith, twos-long screen (h .s), h .straight-on) in
+          part-put (partly new) (2 * n) (2 * (cells - n)) room more more-long
+          ∙ ap (λ (l : List ℕ). l ++ more) ones-put
+          ∙ ap (λ (l : List ℕ). cellPairs screen attribute start n ++ l) more-is ∙ sym second
+          ∙ ap (cellPairs screen attribute start) all
+
+      twos-left : drop (2 * n + 2 * (cells - n)) (wholly new more) ≡ drop (2 * cells) pairs
+      twos-left =
+          let to = drop-drop (2 * (cells - n)) (2 * n) in
+          part-left (partly new) (2 * n) (2 * (cells - n)) room more more-long
+          ∙ sym (to (partly new)) ∙ ap (drop (2 * (cells - n))) ones-left ∙ to pairs
+          ∙ ap (λ (k : ℕ). drop k pairs) both
+
+      pub cells-put : wholly new more ≡ cellPairs screen attribute start cells ++ drop (2 * cells) pairs
+      cells-put =
+          sym (take-append-drop (2 * n + 2 * (cells - n)) (wholly new more)) ∙ ap₂ (λ (l m : List ℕ). l ++ m) twos-put twos-left
+
+-- the pairs of the fill, written up to `pair`
+pub record Filled (drawn : List ℕ) (pair : ℕ) : Type 0 where
   pub within : pair ≤ recordPairs
   pub same : length drawn ≡ recordBytes
-  pub written : take (2 * pair) (pairsOf drawn) ≡ take (2 * cells) (pairsOf before) ++ fillPairs (pair - cells)
+  pub written : take (2 * pair) (pairsOf drawn) ≡ fillPairs pair
 
-pub none-filled :
-    (drawn : List ℕ) (cells : ℕ) → cells ≤ recordPairs → length drawn ≡ recordBytes → Filled drawn cells drawn cells
+pub none-filled : (drawn : List ℕ) → length drawn ≡ recordBytes → Filled drawn 0
 unfolding fillPairs
-none-filled drawn cells fits same =
-    let none : cells - cells ≡ 0 = omega arith in
-    record {
-      after = omega arith;
-      within = fits;
-      same = same;
-      written = rw (none, append-nil (take (2 * cells) (pairsOf drawn)));
-    }
+none-filled drawn same = record { within = omega arith; same = same; written = refl }
 
-pub one-filled :
-    (before : List ℕ) (cells : ℕ) (drawn : List ℕ) (pair : ℕ) → Filled before cells drawn pair → pair < recordPairs
-    → let at = headBytes + 2 * pair in
-    Filled before cells (set (set drawn at 0x20) (at + 1) 0x0E) (pair + 1)
+module _ {drawn : List ℕ} {pair : ℕ} (p : Filled drawn pair) where
+  pub one-filled :
+      pair < recordPairs
+      → let at = headBytes + 2 * pair in
+      Filled (set (set drawn at 0x20) (at + 1) 0x0E) (pair + 1)
+  unfolding fillPairs
+  one-filled more =
+      let room : headBytes + 2 * pair + 1 < length drawn = omega (arith, p .same) in
+      record {
+        within = omega arith;
+        same = simp length-set (p .same);
+        written = rw (pair-stored drawn pair 0x20 0x0E room, p .written, add-one pair);
+      }
+
+  pub all-filled : recordPairs ≤ pair → pairsOf drawn ≡ fillPairs recordPairs
+  all-filled all =
+      let last : pair ≡ recordPairs = omega (arith, p .within) in
+      sym (take-all (2 * pair) (pairsOf drawn) (simp length-drop (omega (arith, p .same)))) ∙ p .written ∙ ap fillPairs last
+
+pub fill-length : (n : ℕ) → length (fillPairs n) ≡ 2 * n
 unfolding fillPairs
-one-filled before cells drawn pair p more =
-    let room : headBytes + 2 * pair + 1 < length drawn = omega (arith, p .same) in
-    let one : pair + 1 - cells ≡ suc (pair - cells) = omega (arith, p .after) in
-    record {
-      after = omega (arith, p .after);
-      within = omega arith;
-      same = simp length-set (p .same);
-      written =
-          rw (pair-stored drawn pair 0x20 0x0E room, p .written, one)
-          (append-assoc (take (2 * cells) (pairsOf before)) (fillPairs (pair - cells)) (0x20 ∷ 0x0E ∷ []));
-    }
+fill-length zero = refl
+fill-length (suc n) = simp length-append (omega (arith, fill-length n))
 
-pub all-filled :
-    (before : List ℕ) (cells : ℕ) (drawn : List ℕ) (pair : ℕ) → Filled before cells drawn pair → recordPairs ≤ pair
-    → pairsOf drawn ≡ take (2 * cells) (pairsOf before) ++ fillPairs (recordPairs - cells)
-all-filled before cells drawn pair p all =
-    let last : pair ≡ recordPairs = omega (arith, p .within) in
-    sym (take-all (2 * pair) (pairsOf drawn) (simp length-drop (omega (arith, p .same)))) ∙ p .written
-    ∙ ap (λ (n : ℕ). take (2 * cells) (pairsOf before) ++ fillPairs (n - cells)) last
+fill-more : (a b : ℕ) → fillPairs (a + b) ≡ fillPairs a ++ fillPairs b
+unfolding fillPairs
+fill-more a zero = rw (add-zero a) (sym (append-nil (fillPairs a)))
+fill-more a (suc b) = rw (add-suc a b, fill-more a b) (append-assoc (fillPairs a) (fillPairs b) (0x20 ∷ 0x0E ∷ []))
+
+-- where all pairs are filled, those after the cells are; and after as many cells as pairs there are none
+pub filled-after :
+    (cells : ℕ) {pairs : List ℕ} → cells ≤ recordPairs → pairs ≡ fillPairs recordPairs
+    → drop (2 * cells) pairs ≡ fillPairs (recordPairs - cells)
+filled-after cells fits is =
+    let all : recordPairs ≡ cells + (recordPairs - cells) = omega arith in
+    ap (drop (2 * cells)) (is ∙ ap fillPairs all ∙ fill-more cells (recordPairs - cells))
+    ∙ drop-at (fillPairs cells) (fillPairs (recordPairs - cells)) (2 * cells) (fill-length cells)
+
+pub none-after :
+    (bytes : List ℕ) (cells : ℕ) → length bytes ≡ recordBytes → recordPairs ≤ cells
+    → drop (2 * cells) (pairsOf bytes) ≡ fillPairs (recordPairs - cells)
+unfolding fillPairs
+none-after bytes cells same all =
+    let none : recordPairs - cells ≡ 0 = omega arith in
+    drop-of-length-le (pairsOf bytes) {i = 2 * cells} (simp length-drop (omega arith)) ∙ sym (ap fillPairs none)

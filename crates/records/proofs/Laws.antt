@@ -4,8 +4,8 @@ use mathlib.Core.Path.{_≡_, refl, ap, _∙_}
 use mathlib.Core.List.{List, [], _∷_, _++_, append-assoc, append-nil}
 use native.Mathlib.Omega.{arith}
 use lib.ListN.{length, take, drop, set, length-set, length-drop, drop-of-length-le}
-use lib.Seq.{take-suc-set, drop-set-add, drop-at, length-take-le}
-use borrow.Rule.Slice.PartMut.{putMid}
+use lib.Seq.{take-all, take-suc-set, drop-set-add, drop-at, length-take-le}
+use borrow.Rule.Slice.PartMut.{midOf, putMid}
 use Rattle.records.specs.Record.{recordBytes, headBytes}
 use Rattle.records.specs.Inner.{pairsOf}
 
@@ -48,6 +48,10 @@ head-stored (w ∷ []) a b c d h = absurd (omega arith)
 head-stored (w ∷ x ∷ []) a b c d h = absurd (omega arith)
 head-stored (w ∷ x ∷ y ∷ []) a b c d h = absurd (omega arith)
 head-stored (w ∷ x ∷ y ∷ z ∷ l) a b c d h = refl
+
+-- the pairs that are lent
+pub pairs-lent : (bytes : List ℕ) → length bytes ≡ recordBytes → midOf headBytes (recordBytes - headBytes) bytes ≡ pairsOf bytes
+pairs-lent bytes same = take-all (recordBytes - headBytes) (pairsOf bytes) (simp length-drop (omega (arith, same)))
 
 -- the pairs that were lent and came back
 pub pairs-back :

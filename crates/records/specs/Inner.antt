@@ -2,7 +2,7 @@
 use Prim.Native.Nat.{ℕ, zero, suc, _+_, _-_, _*_, _%_}
 use mathlib.Core.List.{List, [], _∷_, _++_}
 use mathlib.Core.Bool.{false}
-use lib.ListN.{getD, take, drop}
+use lib.ListN.{getD, drop}
 use Rattle.chain.specs.Chain.{Chain, firstFF, link}
 use Rattle.chain.specs.Reading.{reads}
 use Rattle.chain.specs.Wild.{wildLink, wild}
@@ -25,11 +25,6 @@ unfoldable pub pairsIn : (characters attributes : List ℕ) → (cells : ℕ) �
 pairsIn characters attributes zero = []
 pairsIn characters attributes (suc cell) =
     pairsIn characters attributes cell ++ (getD characters cell 0 ∷ getD attributes cell 0 % 16 ∷ [])
-
--- a record of so many cells, whose pairs are written, with its header and the pairs after them
-abbrev pub finished : Head → (count cells : ℕ) → (drawn : List ℕ) → List ℕ
-finished head count cells drawn =
-    header head count ++ (take (2 * cells) (pairsOf drawn) ++ fillPairs (recordPairs - cells))
 
 -- a row of a capacity that starts at a place of memory: its cells, its count, what it has read, whether its link is
 -- wild, and what it leads to

@@ -3,12 +3,12 @@
 ghost use Prim.Native.Nat.{_+_, _*_, _-_, _≤_, _<_};
 ghost use mathlib.Core.Path.{_≡_};
 ghost use mathlib.Core.List.{_++_};
-ghost use lib.ListN.{length, take};
+ghost use lib.ListN.{length, drop};
 ghost use Rattle.lent.specs.Lengths.{screenBytes, attributeBytes};
 ghost use Rattle.chain.specs.Chain.{chain, places};
 ghost use Rattle.chain.specs.Inner.{Placed};
 ghost use Rattle.records.specs.Record.{recordBytes, headBytes, recordPairs, cellPairs, fillPairs, header};
-ghost use Rattle.records.specs.Inner.{pairsOf, pairsIn, finished, rowRead, rowDrawn, walked, drawnAhead};
+ghost use Rattle.records.specs.Inner.{pairsOf, pairsIn, rowRead, rowDrawn, walked, drawnAhead};
 use chain::Ahead;
 use chain::Head;
 use chain::Terminator;
@@ -65,13 +65,14 @@ fn put_cells(characters: &[u8], attributes: &[u8], pairs: &mut [u8])
 }
 
 // The pairs of a row's cells: of those up to the end of memory, and then of those from place 0 on.
-fn draw_cells(screen: &[u8], attribute: &[u8], start: usize, cells: usize, pairs: &mut [u8])
+fn draw_round(screen: &[u8], attribute: &[u8], start: usize, cells: usize, pairs: &mut [u8])
     requires { ⌜ length (now screen) ≡ screenBytes ⌝ }
     requires { ⌜ length (now attribute) ≡ attributeBytes ⌝ }
     requires { ⌜ (start < places) × (cells ≤ recordPairs) ⌝ }
     requires { ⌜ length (now pairs) ≡ 2 * recordPairs ⌝ }
-    ensures { λ _. ⌜ take (2 * cells) (now (pairs .exit))
-        ≡ cellPairs (now (screen .entry)) (now (attribute .entry)) start cells ⌝ }
+    ensures { λ _. ⌜ now (pairs .exit)
+        ≡ cellPairs (now (screen .entry)) (now (attribute .entry)) start cells
+        ++ drop (2 * cells) (now (pairs .entry)) ⌝ }
 {
     let straight = chain::before_the_end(start, cells);
     let end = start + straight;
@@ -89,20 +90,52 @@ fn draw_cells(screen: &[u8], attribute: &[u8], start: usize, cells: usize, pairs
     );
 }
 
-// The pairs after the last cell.
-fn fill(into: &mut [u8], cells: usize)
-    requires { ⌜ cells ≤ recordPairs ⌝ }
+// The same. A row that ends before memory does is one part, and most do.
+fn draw_cells(screen: &[u8], attribute: &[u8], start: usize, cells: usize, pairs: &mut [u8])
+    requires { ⌜ length (now screen) ≡ screenBytes ⌝ }
+    requires { ⌜ length (now attribute) ≡ attributeBytes ⌝ }
+    requires { ⌜ (start < places) × (cells ≤ recordPairs) ⌝ }
+    requires { ⌜ length (now pairs) ≡ 2 * recordPairs ⌝ }
+    ensures { λ _. ⌜ now (pairs .exit)
+        ≡ cellPairs (now (screen .entry)) (now (attribute .entry)) start cells
+        ++ drop (2 * cells) (now (pairs .entry)) ⌝ }
+{
+    let end = start + cells;
+    if end > lent::SCREEN_BYTES {
+        draw_round(screen, attribute, start, cells, pairs);
+        return;
+    }
+    put_cells(
+        &screen[start..end],
+        &attribute[start..end],
+        &mut pairs[0..2 * cells],
+    );
+}
+
+// Fills all pairs.
+fn fill(into: &mut [u8])
     requires { ⌜ length (now into) ≡ recordBytes ⌝ }
-    ensures { λ _. ⌜ pairsOf (now (into .exit))
-        ≡ take (2 * cells) (pairsOf (now (into .entry))) ++ fillPairs (recordPairs - cells) ⌝ }
+    ensures { λ _. ⌜ pairsOf (now (into .exit)) ≡ fillPairs recordPairs ⌝ }
 {
     let into = &mut into[0..RECORD_BYTES];
-    let mut pair = cells;
+    let mut pair = 0;
     while pair < RECORD_PAIRS {
         let at = HEAD_BYTES + 2 * pair;
         into[at] = 0x20;
         into[at + 1] = 0x0E;
         pair += 1;
+    }
+}
+
+// Fills the pairs after a row's cells, which are put later: all of them, since a loop of a length that is known is the
+// quickest, or none of a row that leaves none.
+fn fill_after(into: &mut [u8], cells: usize)
+    requires { ⌜ cells ≤ recordPairs ⌝ }
+    requires { ⌜ length (now into) ≡ recordBytes ⌝ }
+    ensures { λ _. ⌜ drop (2 * cells) (pairsOf (now (into .exit))) ≡ fillPairs (recordPairs - cells) ⌝ }
+{
+    if cells < RECORD_PAIRS {
+        fill(into);
     }
 }
 
@@ -116,16 +149,6 @@ fn write_head(into: &mut [u8], head: Head, count: u8)
     into[START_LOW_AT] = (start % 256) as u8;
     into[KIND_AT] = head.kind;
     into[COUNT_AT] = count;
-}
-
-// What the cells leave to write of a record.
-fn finish(into: &mut [u8], head: Head, count: u8, cells: usize)
-    requires { ⌜ (head .start < places) × (cells ≤ recordPairs) ⌝ }
-    requires { ⌜ length (now into) ≡ recordBytes ⌝ }
-    ensures { λ _. ⌜ now (into .exit) ≡ finished head count cells (now (into .entry)) ⌝ }
-{
-    fill(into, cells);
-    write_head(into, head, count);
 }
 
 // Reads a row: up to its terminator, after which the link leads on, or up to its capacity.
@@ -173,6 +196,7 @@ fn draw_row(capacity: usize, screen: &[u8], attribute: &[u8], head: Head, into: 
 {
     let row = read_row(capacity, screen, attribute, head);
     let cells = row.cells;
+    fill_after(into, cells);
     draw_cells(
         screen,
         attribute,
@@ -180,7 +204,7 @@ fn draw_row(capacity: usize, screen: &[u8], attribute: &[u8], head: Head, into: 
         cells,
         &mut into[HEAD_BYTES..RECORD_BYTES],
     );
-    finish(into, head, row.count, cells);
+    write_head(into, head, row.count);
     let walked = row.walked;
     walked
 }
@@ -211,7 +235,8 @@ pub fn draw_ahead(
             draw_row(columns, screen, attribute, head, into)
         }
         Ahead::Dark => {
-            finish(into, Head::first(), DARK, 0);
+            fill(into);
+            write_head(into, Head::first(), DARK);
             Walked {
                 reads: 0,
                 wild: false,

@@ -53,10 +53,11 @@ draw-row-requires-2 c κs =
     let p = h .before .before .before .before .before .pre in
     (p .0, (p .1 .0, ((placed h, p .1 .1 .0 .0), p .1 .1 .1)))
 
-finish-requires : tie.Need-finish-requires
-finish-requires c κs =
-    let p = c .before .before .before .before .before .before .before .pre in
-    ((rw (c .first .ensures) (omega arith), omega arith), p .1 .1 .1)
+write-head-requires : tie.Need-write-head-requires
+write-head-requires c κs =
+    let f = c .before .before .before .before in
+    let p = f .before .before .before .before .before .before .before .pre in
+    (rw (c .first .ensures) (omega arith), omega (arith, f .fill .kept .0, p .1 .1 .1))
 
 returns-2 : tie.Need-returns-2
 unfolding capacity
@@ -69,8 +70,9 @@ returns-3 : tie.Need-returns-3
 unfolding reads wild recordOf cellPairs
 returns-3 c =
     let d = c .before .before in
-    let h = d .before .before .before in
-    rw (h .enum-told .given .1) (refl, d .finish .ensures ∙ rw (d .before .first .ensures))
+    let f = d .before .before .before .before .before in
+    let h = f .before .before in
+    rw (h .enum-told .given .1) (refl, d .write-head .ensures ∙ rw (d .before .first .ensures, f .fill .ensures))
 
 pub draw-ahead-spec : {M : Type 1} → statement M
 draw-ahead-spec =
@@ -84,7 +86,8 @@ draw-ahead-spec =
     draw-row-requires-2
     (λ c. search needs)
     (λ c κs. search needs)
-    finish-requires
+    (λ c κs. search needs)
+    write-head-requires
     (λ c. search needs)
     returns-2
     (λ c. search needs)

@@ -1,40 +1,35 @@
-use Prim.Native.Nat.{ℕ, _-_, _*_}
+use Prim.Native.Nat.{_-_}
 use mathlib.Core.Path.{ap, _∙_}
-use mathlib.Core.List.{List, _++_}
 use native.Mathlib.Omega.{arith}
-use lib.ListN.{length-set, take}
+use lib.ListN.{length-set}
 use borrow.Author.Needs.{needs}
-use Rattle.lent.proofs.Parts.{all-lent, all-back, part-lent}
-use Rattle.records.specs.Record.{recordPairs, recordBytes, fillPairs}
+use Rattle.lent.proofs.Parts.{all-back, part-lent}
+use Rattle.records.specs.Record.{recordPairs, recordBytes}
 use Rattle.records.specs.Inner.{pairsOf}
 use Rattle.records.proofs.Cells.{Filled, none-filled, one-filled, all-filled}
 use Rattle.records.proofs.fill.Statement.{statement}
 use Rattle.records.proofs.fill.Tie as tie
 
 abbrev Inv-loop : tie.InvT-loop
-Inv-loop cells into₀ pair₀ into pair = Filled into₀ cells into pair
+Inv-loop into₀ pair₀ into pair = Filled into pair
 
 abbrev μ-loop : tie.MeasureT-loop
-μ-loop cells into₀ pair₀ into pair = recordPairs - pair
+μ-loop into₀ pair₀ into pair = recordPairs - pair
 
 loop-holds : tie.Need-loop-holds Inv-loop μ-loop
-loop-holds c = none-filled _ _ (search needs) (part-lent (c .before .args .into .now) 0 recordBytes (search needs))
+loop-holds c = none-filled _ (part-lent (c .before .args .into .now) 0 recordBytes (search needs))
 
 slice-write-into-2 : tie.Need-slice-write-into-2 Inv-loop μ-loop
 slice-write-into-2 c = simp length-set (omega arith)
 
 loop-again : tie.Need-loop-again Inv-loop μ-loop
-loop-again c = one-filled _ _ _ _ (c .before .loop .inv) (omega arith)
+loop-again c = one-filled (c .before .loop .inv) (omega arith)
 
 returns : tie.Need-returns Inv-loop μ-loop
 returns c =
     let l = c .before .before .before in
-    let s = l .before .before in
-    let into = s .args .into .now in
-    let all = all-lent into recordBytes (search needs) in
-    ap pairsOf (all-back into recordBytes (l .loop .into) (search needs))
-    ∙ all-filled _ _ _ _ (l .loop .inv) (omega arith)
-    ∙ ap (λ (bytes : List ℕ). take (2 * s .args .cells) (pairsOf bytes) ++ fillPairs (recordPairs - s .args .cells)) all
+    ap pairsOf (all-back (l .before .before .args .into .now) recordBytes (l .loop .into) (search needs))
+    ∙ all-filled (l .loop .inv) (omega arith)
 
 pub fill-spec : {M : Type 1} → statement M
 fill-spec =
