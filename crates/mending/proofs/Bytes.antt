@@ -2,14 +2,14 @@
 -- bytes, how it goes on and ends.
 use Prim.Native.Nat.{ℕ, _+_, _≤_, _<_}
 use mathlib.Core.Path.{_≡_, refl, sym, _∙_}
-use mathlib.Core.List.{List, [], _∷_, _++_, append-nil}
+use mathlib.Core.List.{List, [], _∷_}
 use mathlib.Core.Bool.{Bool, true, false, cond, not, _||_}
 use native.Mathlib.Numerals.{add-one}
 use native.Mathlib.Omega.{arith}
-use lib.ListN.{length, getD, take, drop, set, length-set, length-drop, take-append-drop, drop-of-length-le}
-use lib.Seq.{take-all, take-at, drop-at, take-suc, take-suc-set, length-take-le}
+use lib.ListN.{length, getD, take, drop, length-drop, take-append-drop}
+use lib.Seq.{take-all, take-suc, length-take-le, drop-drop}
 use lib.Dec.{eqb}
-use borrow.Rule.Slice.PartMut.{midOf, putMid}
+use borrow.Rule.Slice.PartMut.{midOf}
 use Rattle.records.specs.Record.{recordBytes}
 use Rattle.mending.specs.Mending.{sameBytes}
 use Rattle.mending.proofs.Same.{differ}
@@ -43,20 +43,34 @@ module _ {kept drawn : List ℕ} {differed : Bool} {at : ℕ} (c : Compared kept
   pub all-compared : length kept ≤ at → differed ≡ not (sameBytes kept drawn)
   all-compared all = rw (← take-all at kept (omega arith), ← take-all at drawn (omega (arith, c .same))) (c .told)
 
--- a record whose header is replaced, and then its pairs
-pub both-replaced :
-    (kept drawn : List ℕ) {one two : List ℕ} {head pairs : Bool} → length kept ≡ recordBytes → length drawn ≡ recordBytes
-    → (head ≡ not (sameBytes (take 4 kept) (take 4 drawn))) × (one ≡ take 4 drawn)
-    → let half = one ++ drop 4 kept in
-    (pairs ≡ not (sameBytes (midOf 4 264 half) (midOf 4 264 drawn))) × (two ≡ midOf 4 264 drawn)
-    → ((head || pairs) ≡ not (sameBytes kept drawn)) × (putMid 4 264 half two ≡ drawn)
-both-replaced kept drawn long as-long e f =
-    let front = length-take-le 4 drawn (omega arith) in
-    let left = drop-at (take 4 drawn) (drop 4 kept) 4 front in
-    let old = take-all 264 (drop 4 kept) (simp length-drop (omega arith)) in
-    let new = take-all 264 (drop 4 drawn) (simp length-drop (omega arith)) in
-    let none = drop-of-length-le (drop 4 kept) {i = 264} (simp length-drop (omega arith)) in
-    let both = differ (take 4 kept) (take 4 drawn) (drop 4 kept) (drop 4 drawn) (length-take-le 4 kept (omega arith) ∙ sym front) in (
-      rw (e .0, f .0, e .1, left, old, new) (sym (simp take-append-drop at both)),
-      rw (f .1, e .1, take-at (take 4 drawn) (drop 4 kept) 4 front, left, none, new, append-nil) (take-append-drop 4 drawn),
-    )
+-- a record in three parts: the header, the first pairs and the last ones
+module _ (kept drawn : List ℕ) (long : length kept ≡ recordBytes) (as-long : length drawn ≡ recordBytes) where
+  pub in-parts :
+      {head first last : Bool} → last ≡ not (sameBytes (midOf 164 104 kept) (midOf 164 104 drawn))
+      → first ≡ not (sameBytes (midOf 4 160 kept) (midOf 4 160 drawn))
+      → head ≡ not (sameBytes (take 4 kept) (take 4 drawn)) → (head || (first || last)) ≡ not (sameBytes kept drawn)
+  in-parts l f h =
+      let rest = cut 160 (drop 4 kept) (drop 4 drawn) (simp length-drop (omega arith)) (simp length-drop (omega arith)) in
+      rw (
+        h,
+        f,
+        l,
+        ends kept long,
+        ends drawn as-long,
+        cut 4 kept drawn (omega arith) (omega arith),
+        rest,
+        drop-drop 160 4 kept,
+        drop-drop 160 4 drawn,
+      )
+    where
+      -- bytes differ ahead of a place or from there on
+      cut :
+          (n : ℕ) (xs ys : List ℕ) → n ≤ length xs → length xs ≡ length ys
+          → not (sameBytes xs ys) ≡ (not (sameBytes (take n xs) (take n ys)) || not (sameBytes (drop n xs) (drop n ys)))
+      cut n xs ys few same =
+          simp take-append-drop
+          at (differ (take n xs) (take n ys) (drop n xs) (drop n ys)
+          (length-take-le n xs few ∙ sym (length-take-le n ys (omega arith))))
+
+      ends : (bytes : List ℕ) → length bytes ≡ recordBytes → midOf 164 104 bytes ≡ drop 164 bytes
+      ends bytes same = take-all 104 (drop 164 bytes) (simp length-drop (omega arith))

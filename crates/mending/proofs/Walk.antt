@@ -15,8 +15,7 @@ use Rattle.chain.specs.Chain.{Chain, rows, rowAt}
 use Rattle.chain.specs.Inner.{rowAhead, aheadAfter, aheadOf}
 use Rattle.chain.specs.declared.Ahead.{Ahead}
 use Rattle.chain.proofs.Laws.{ahead-leads}
-use Rattle.records.specs.Record.{recordBytes, recordPairs}
-use Rattle.records.specs.Inner.{drawnAhead}
+use Rattle.records.specs.Record.{recordBytes, recordPairs, recordOf}
 use Rattle.picture.specs.Picture.{inOrder, recordAt, recordIn}
 use Rattle.picture.proofs.Records.{same-records, own-records, record-back, record-put, record-left}
 use Rattle.marks.specs.Marks.{marked, marksTo}
@@ -64,7 +63,7 @@ module _ (c : Chain) (f : ℕ) (old : List ℕ) (wide : c .columns ≤ recordPai
         rw (part, m .left)
 
     now-marked :
-        {new : List ℕ} {differed : Bool} {next : ℕ} → new ≡ drawnAhead c ahead
+        {new : List ℕ} {differed : Bool} {next : ℕ} → new ≡ recordOf c (rowAhead c ahead)
         → differed ≡ not (sameBytes (midOf (row * recordBytes) (row * recordBytes + recordBytes - row * recordBytes) picture) new)
         → next ≡ marked marks row differed → next ≡ marksTo (changed old (mended c f old)) (row + 1)
     unfolding marksTo
@@ -76,7 +75,7 @@ module _ (c : Chain) (f : ℕ) (old : List ℕ) (wide : c .columns ≤ recordPai
         {drawn new : List ℕ} {differed : Bool} {next : ℕ} {then : Ahead}
         → let at = row * recordBytes in
         let part = at + recordBytes - at in
-        drawn ≡ drawnAhead c ahead → length drawn ≡ recordBytes → then ≡ aheadAfter c (rowAhead c ahead)
+        drawn ≡ recordOf c (rowAhead c ahead) → length drawn ≡ recordBytes → then ≡ aheadAfter c (rowAhead c ahead)
         → (differed ≡ not (sameBytes (midOf at part picture) drawn)) × (new ≡ drawn) → next ≡ marked marks row differed
         → Mending c f old (putMid at part picture new) then next (row + 1)
     unfolding inOrder aheadOf

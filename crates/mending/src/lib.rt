@@ -20,6 +20,9 @@ pub struct Stored {
     pub marks: u32,
 }
 
+// Where the pairs after the 80th stand in a record.
+const LAST_PAIRS_AT: usize = 164;
+
 // Whether two parts of the same length differ. The loop has no way out but its end, so that the bytes can be compared
 // together.
 fn differ(kept: &[u8], drawn: &[u8]) -> bool
@@ -37,37 +40,42 @@ fn differ(kept: &[u8], drawn: &[u8]) -> bool
     differ
 }
 
-// Puts what was drawn in the place of what was kept, and says whether they differed. Most records come out as they
-// were, and are not written.
-fn replace(kept: &mut [u8], drawn: &[u8]) -> bool
-    requires { ⌜ length (now drawn) ≡ length (now kept) ⌝ }
+// Whether two records differ, in three parts. A processor waits where it reads bytes just written in other pieces than
+// it wrote them in. So each part begins where a piece began; and the first pairs, which `draw_row` writes last and in
+// smaller pieces, come after the last ones.
+fn records_differ(kept: &[u8], drawn: &[u8]) -> bool
+    requires { ⌜ length (now kept) ≡ recordBytes ⌝ }
+    requires { ⌜ length (now drawn) ≡ recordBytes ⌝ }
     ensures { λ r. ⌜ r ≡ not (sameBytes (now (kept .entry)) (now (drawn .entry))) ⌝ }
-    ensures { λ _. ⌜ now (kept .exit) ≡ now (drawn .entry) ⌝ }
 {
-    if !differ(kept, drawn) {
-        return false;
-    }
-    lent::copy(drawn, kept);
-    true
+    let last = differ(
+        &kept[LAST_PAIRS_AT..records::RECORD_BYTES],
+        &drawn[LAST_PAIRS_AT..records::RECORD_BYTES],
+    );
+    let first = differ(
+        &kept[records::HEAD_BYTES..LAST_PAIRS_AT],
+        &drawn[records::HEAD_BYTES..LAST_PAIRS_AT],
+    );
+    let head = differ(
+        &kept[0..records::HEAD_BYTES],
+        &drawn[0..records::HEAD_BYTES],
+    );
+    head | (first | last)
 }
 
-// The same for a record. Its header and its pairs are compared apart, so that bytes just written are read again in the
-// pieces in which they were written: a processor waits for those that it has to put together.
-fn replace_record(kept: &mut [u8], drawn: &[u8]) -> bool
+// Puts a record that was drawn in the place of the one that was kept, and says whether they differed. Most records
+// come out as they were, and are not written.
+fn replace(kept: &mut [u8], drawn: &[u8]) -> bool
     requires { ⌜ length (now kept) ≡ recordBytes ⌝ }
     requires { ⌜ length (now drawn) ≡ recordBytes ⌝ }
     ensures { λ r. ⌜ r ≡ not (sameBytes (now (kept .entry)) (now (drawn .entry))) ⌝ }
     ensures { λ _. ⌜ now (kept .exit) ≡ now (drawn .entry) ⌝ }
 {
-    let head = replace(
-        &mut kept[0..records::HEAD_BYTES],
-        &drawn[0..records::HEAD_BYTES],
-    );
-    let pairs = replace(
-        &mut kept[records::HEAD_BYTES..records::RECORD_BYTES],
-        &drawn[records::HEAD_BYTES..records::RECORD_BYTES],
-    );
-    head | pairs
+    if !records_differ(kept, drawn) {
+        return false;
+    }
+    lent::copy(drawn, kept);
+    true
 }
 
 // Mends the picture from a row on, and marks the rows whose record changed. Each row is drawn apart from what is kept
@@ -97,10 +105,11 @@ fn mend(columns: usize, screen: &[u8], attribute: &[u8], first: Reader, picture:
     while row < chain::ROWS {
         let at = row * records::RECORD_BYTES;
         let end = at + records::RECORD_BYTES;
-        let walked = records::draw_ahead(columns, screen, attribute, ahead, &mut drawn);
-        let changed = replace_record(&mut picture[at..end], &drawn);
+        let read = records::read_ahead(columns, screen, attribute, ahead);
+        records::draw_row(screen, attribute, read, &mut drawn);
+        let changed = replace(&mut picture[at..end], &drawn);
         marks = marks::mark(marks, row, changed);
-        ahead = walked.next;
+        ahead = read.next;
         row += 1;
     }
     marks

@@ -15,9 +15,9 @@ use Rattle.chain.specs.declared.Ahead.{Ahead}
 use Rattle.chain.specs.declared.Ahead.the-variants.{Row}
 use Rattle.chain.proofs.Laws.{ahead-leads}
 use Rattle.chain.proofs.Reading.{reads-fit}
-use Rattle.records.specs.Record.{recordBytes, recordPairs}
-use Rattle.records.specs.Inner.{walked, drawnAhead}
-use Rattle.records.specs.declared.Walked.{Walked}
+use Rattle.records.specs.Record.{recordBytes, recordPairs, recordOf}
+use Rattle.records.specs.Inner.{rowRead}
+use Rattle.records.specs.declared.RowRead.{RowRead}
 use Rattle.picture.specs.Picture.{inOrder, recordAt, pictureOf}
 use Rattle.picture.specs.Wild.{firstWild}
 use Rattle.picture.specs.Inner.{named}
@@ -59,15 +59,15 @@ module _
   is-row : rowAhead c ahead ≡ rowAt c row
   is-row = rw (w .comes) (ahead-leads c row)
 
-  next-counted : {one : Walked} → one ≡ walked c ahead → count + one .reads ≡ readsTo c (row + 1)
+  next-counted : {one : RowRead} → one ≡ rowRead c ahead → count + one .reads ≡ readsTo c (row + 1)
   unfolding readsTo
   next-counted e = rw (add-one row, e, is-row, w .counted)
 
-  pub sum-fits : {one : Walked} → one ≡ walked c ahead → c .columns ≤ recordPairs → count + one .reads ≤ readsAt132
+  pub sum-fits : {one : RowRead} → one ≡ rowRead c ahead → c .columns ≤ recordPairs → count + one .reads ≤ readsAt132
   sum-fits {one} e wide = rw (next-counted {one = one} e) (reads-fit c wide (row + 1) (omega arith))
 
   pub walk-goes-on :
-      {one : Walked} {new : List ℕ} → one ≡ walked c ahead → new ≡ drawnAhead c ahead → length new ≡ recordBytes
+      {one : RowRead} {new : List ℕ} → one ≡ rowRead c ahead → new ≡ recordOf c (rowAhead c ahead) → length new ≡ recordBytes
       → Walking
       c
       (putMid (row * recordBytes) (row * recordBytes + recordBytes - row * recordBytes) picture new)

@@ -105,10 +105,11 @@ fn draw_rows(columns: usize, screen: &[u8], attribute: &[u8], picture: &mut [u8]
     while row < chain::ROWS {
         let at = row * records::RECORD_BYTES;
         let end = at + records::RECORD_BYTES;
-        let walked = records::draw_ahead(columns, screen, attribute, ahead, &mut picture[at..end]);
-        reads += walked.reads;
-        wild = name(wild, row as u8, walked.wild);
-        ahead = walked.next;
+        let read = records::read_ahead(columns, screen, attribute, ahead);
+        records::draw_row(screen, attribute, read, &mut picture[at..end]);
+        reads += read.reads;
+        wild = name(wild, row as u8, read.wild);
+        ahead = read.next;
         row += 1;
     }
     Drawn::accepted(reads as u16, wild)

@@ -1,20 +1,20 @@
--- The pairs of a row's cells are written in two parts, and then the pairs after them: what holds after so many, how it
--- begins, goes on and ends.
+-- The pairs of a row are filled, and then those of its cells are written over them, in one part or in two: what holds
+-- after so many, how it begins, goes on and ends.
 use Prim.Native.Nat.{ℕ, zero, suc, _+_, _-_, _*_, _%_, _≤_, _<_, min}
 use mathlib.Core.Path.{_≡_, refl, sym, _∙_, ap, ap₂}
 use mathlib.Core.List.{List, [], _∷_, _++_, append-assoc, append-nil}
 use native.Mathlib.Nat.{add-zero, add-suc}
 use native.Mathlib.Numerals.{add-one}
 use native.Mathlib.Omega.{arith}
-use lib.ListN.{length, getD, take, drop, set, length-set, length-drop, length-append, take-append-drop, drop-of-length-le}
+use lib.ListN.{length, getD, take, drop, set, length-set, length-append, take-append-drop, drop-of-length-le}
 use lib.Seq.{take-all, take-at, drop-at, drop-drop}
 use borrow.Rule.Slice.PartMut.{midOf, putMid, mid-len, same-len-mid}
 use Rattle.lent.proofs.Parts.{part-lent, part-put, part-left}
 use Rattle.chain.specs.Chain.{places}
 use Rattle.chain.proofs.Searching.{Part, one-is, two-is, one-long, two-long}
-use Rattle.records.specs.Record.{recordBytes, headBytes, recordPairs, cellPairs, fillPairs}
-use Rattle.records.specs.Inner.{pairsOf, pairsIn}
-use Rattle.records.proofs.Laws.{two-stored, pair-stored}
+use Rattle.records.specs.Record.{recordPairs, cellPairs, fillPairs}
+use Rattle.records.specs.Inner.{pairsIn}
+use Rattle.records.proofs.Laws.{two-stored}
 
 -- the pairs of cells next to each other, written up to `cell`
 pub record Copied (characters attributes pairs : List ℕ) (cell : ℕ) : Type 0 where
@@ -175,33 +175,29 @@ module _ {screen attribute pairs : List ℕ} {start cells n : ℕ} (h : Halved s
           sym (take-append-drop (2 * n + 2 * (cells - n)) (wholly new more)) ∙ ap₂ (λ (l m : List ℕ). l ++ m) twos-put twos-left
 
 -- the pairs of the fill, written up to `pair`
-pub record Filled (drawn : List ℕ) (pair : ℕ) : Type 0 where
+pub record Filled (pairs : List ℕ) (pair : ℕ) : Type 0 where
   pub within : pair ≤ recordPairs
-  pub same : length drawn ≡ recordBytes
-  pub written : take (2 * pair) (pairsOf drawn) ≡ fillPairs pair
+  pub same : length pairs ≡ 2 * recordPairs
+  pub written : take (2 * pair) pairs ≡ fillPairs pair
 
-pub none-filled : (drawn : List ℕ) → length drawn ≡ recordBytes → Filled drawn 0
+pub none-filled : (pairs : List ℕ) → length pairs ≡ 2 * recordPairs → Filled pairs 0
 unfolding fillPairs
-none-filled drawn same = record { within = omega arith; same = same; written = refl }
+none-filled pairs same = record { within = omega arith; same = same; written = refl }
 
-module _ {drawn : List ℕ} {pair : ℕ} (p : Filled drawn pair) where
-  pub one-filled :
-      pair < recordPairs
-      → let at = headBytes + 2 * pair in
-      Filled (set (set drawn at 0x20) (at + 1) 0x0E) (pair + 1)
+module _ {pairs : List ℕ} {pair : ℕ} (p : Filled pairs pair) where
+  pub one-filled : pair < recordPairs → Filled (set (set pairs (2 * pair) 0x20) (2 * pair + 1) 0x0E) (pair + 1)
   unfolding fillPairs
   one-filled more =
-      let room : headBytes + 2 * pair + 1 < length drawn = omega (arith, p .same) in
       record {
         within = omega arith;
         same = simp length-set (p .same);
-        written = rw (pair-stored drawn pair 0x20 0x0E room, p .written, add-one pair);
+        written = rw (two-stored pairs pair 0x20 0x0E (omega (arith, p .same)), p .written, add-one pair);
       }
 
-  pub all-filled : recordPairs ≤ pair → pairsOf drawn ≡ fillPairs recordPairs
+  pub all-filled : recordPairs ≤ pair → pairs ≡ fillPairs recordPairs
   all-filled all =
       let last : pair ≡ recordPairs = omega (arith, p .within) in
-      sym (take-all (2 * pair) (pairsOf drawn) (simp length-drop (omega (arith, p .same)))) ∙ p .written ∙ ap fillPairs last
+      sym (take-all (2 * pair) pairs (omega (arith, p .same))) ∙ p .written ∙ ap fillPairs last
 
 pub fill-length : (n : ℕ) → length (fillPairs n) ≡ 2 * n
 unfolding fillPairs
@@ -223,9 +219,9 @@ filled-after cells fits is =
     ∙ drop-at (fillPairs cells) (fillPairs (recordPairs - cells)) (2 * cells) (fill-length cells)
 
 pub none-after :
-    (bytes : List ℕ) (cells : ℕ) → length bytes ≡ recordBytes → recordPairs ≤ cells
-    → drop (2 * cells) (pairsOf bytes) ≡ fillPairs (recordPairs - cells)
+    (pairs : List ℕ) (cells : ℕ) → length pairs ≡ 2 * recordPairs → recordPairs ≤ cells
+    → drop (2 * cells) pairs ≡ fillPairs (recordPairs - cells)
 unfolding fillPairs
-none-after bytes cells same all =
+none-after pairs cells same all =
     let none : recordPairs - cells ≡ 0 = omega arith in
-    drop-of-length-le (pairsOf bytes) {i = 2 * cells} (simp length-drop (omega arith)) ∙ sym (ap fillPairs none)
+    drop-of-length-le pairs {i = 2 * cells} (omega arith) ∙ sym (ap fillPairs none)

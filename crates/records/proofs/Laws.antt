@@ -3,10 +3,11 @@ use Prim.Native.Nat.{ℕ, suc, _+_, _-_, _*_, _≤_, _<_}
 use mathlib.Core.Path.{_≡_, refl, ap, _∙_}
 use mathlib.Core.List.{List, [], _∷_, _++_, append-assoc, append-nil}
 use native.Mathlib.Omega.{arith}
-use lib.ListN.{length, take, drop, set, length-set, length-drop, drop-of-length-le}
-use lib.Seq.{take-all, take-suc-set, drop-set-add, drop-at, length-take-le}
-use borrow.Rule.Slice.PartMut.{midOf, putMid}
-use Rattle.records.specs.Record.{recordBytes, headBytes}
+use lib.ListN.{length, take, set, length-set, drop-of-length-le}
+use lib.Seq.{take-suc-set}
+use borrow.Rule.Slice.PartMut.{putMid}
+use Rattle.chain.specs.declared.Head.{Head}
+use Rattle.records.specs.Record.{recordBytes, headBytes, header}
 use Rattle.records.specs.Inner.{pairsOf}
 
 -- two bytes are stored after the pairs of bytes before them
@@ -25,20 +26,6 @@ two-stored l k a b h =
     )
     (append-assoc (take (2 * k) l) (a ∷ []) (b ∷ []))
 
--- and so a pair of a record
-pub pair-stored :
-    (l : List ℕ) (k a b : ℕ) → headBytes + 2 * k + 1 < length l
-    → take (2 * (k + 1)) (pairsOf (set (set l (headBytes + 2 * k) a) (headBytes + 2 * k + 1) b))
-    ≡ take (2 * k) (pairsOf l) ++ (a ∷ b ∷ [])
-pair-stored l k a b h =
-    let second : headBytes + 2 * k + 1 ≡ headBytes + (2 * k + 1) = omega arith in
-    rw (
-      second,
-      drop-set-add headBytes (set l (headBytes + 2 * k) a) (2 * k + 1) b,
-      drop-set-add headBytes l (2 * k) a,
-    )
-    (two-stored (pairsOf l) k a b (simp length-drop (omega arith)))
-
 -- the header is stored ahead of the rest
 pub head-stored :
     (l : List ℕ) (a b c d : ℕ) → headBytes ≤ length l
@@ -49,16 +36,11 @@ head-stored (w ∷ x ∷ []) a b c d h = absurd (omega arith)
 head-stored (w ∷ x ∷ y ∷ []) a b c d h = absurd (omega arith)
 head-stored (w ∷ x ∷ y ∷ z ∷ l) a b c d h = refl
 
--- the pairs that are lent
-pub pairs-lent : (bytes : List ℕ) → length bytes ≡ recordBytes → midOf headBytes (recordBytes - headBytes) bytes ≡ pairsOf bytes
-pairs-lent bytes same = take-all (recordBytes - headBytes) (pairsOf bytes) (simp length-drop (omega (arith, same)))
-
--- the pairs that were lent and came back
-pub pairs-back :
-    (bytes new : List ℕ) → length bytes ≡ recordBytes
-    → pairsOf (putMid headBytes (recordBytes - headBytes) bytes new) ≡ new
-pairs-back bytes new same =
-    let none = drop-of-length-le (pairsOf bytes) {i = recordBytes - headBytes} (simp length-drop (omega (arith, same))) in
-    drop-at (take headBytes bytes) (new ++ drop (recordBytes - headBytes) (pairsOf bytes)) headBytes
-    (length-take-le headBytes bytes (omega (arith, same)))
-    ∙ ap (λ (rest : List ℕ). new ++ rest) none ∙ append-nil new
+-- a header stays where the pairs after it were lent and come back
+pub pairs-put :
+    (head : Head) (count : ℕ) (pairs new : List ℕ) → length pairs ≡ recordBytes - headBytes
+    → putMid headBytes (recordBytes - headBytes) (header head count ++ pairs) new ≡ header head count ++ new
+pairs-put head count pairs new same =
+    let none = drop-of-length-le pairs {i = recordBytes - headBytes} (omega (arith, same)) in
+    ap (λ (rest : List ℕ). header head count ++ (new ++ rest)) none
+    ∙ ap (λ (rest : List ℕ). header head count ++ rest) (append-nil new)

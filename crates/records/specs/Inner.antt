@@ -1,19 +1,16 @@
 -- No sentence of document 01: what our own functions promise each other. Here those that draw one row.
-use Prim.Native.Nat.{ℕ, zero, suc, _+_, _-_, _*_, _%_}
+use Prim.Native.Nat.{ℕ, zero, suc, _-_, _%_}
 use mathlib.Core.List.{List, [], _∷_, _++_}
 use mathlib.Core.Bool.{false}
 use lib.ListN.{getD, drop}
-use Rattle.chain.specs.Chain.{Chain, firstFF, link}
+use Rattle.chain.specs.Chain.{Chain, Row}
 use Rattle.chain.specs.Reading.{reads}
-use Rattle.chain.specs.Wild.{wildLink, wild}
+use Rattle.chain.specs.Wild.{wild}
 use Rattle.chain.specs.Inner.{rowAhead, aheadAfter}
 use Rattle.chain.specs.declared.Head.{Head}
-use Rattle.chain.specs.declared.Terminator.{Terminator}
-use Rattle.chain.specs.declared.Terminator.the-variants.{After, Missing}
 use Rattle.chain.specs.declared.Ahead.{Ahead}
-use Rattle.chain.specs.declared.Ahead.the-variants.{Row, Dark}
-use Rattle.records.specs.Record.{headBytes, recordPairs, cellPairs, tornCount, fillPairs, header, recordOf}
-use Rattle.records.specs.declared.Walked.{Walked}
+use Rattle.chain.specs.declared.Ahead.the-variants.{Dark}
+use Rattle.records.specs.Record.{headBytes, recordPairs, cellPairs, count, cellsShown, fillPairs, headOf, header}
 use Rattle.records.specs.declared.RowRead.{RowRead}
 
 -- the bytes of a record's pairs
@@ -26,47 +23,30 @@ pairsIn characters attributes zero = []
 pairsIn characters attributes (suc cell) =
     pairsIn characters attributes cell ++ (getD characters cell 0 ∷ getD attributes cell 0 % 16 ∷ [])
 
--- a row of a capacity that starts at a place of memory: its cells, its count, what it has read, whether its link is
--- wild, and what it leads to
-abbrev pub readTo : (capacity : ℕ) → (screen attribute : List ℕ) → Head → Terminator → RowRead
-readTo capacity screen attribute head (After cells) =
+-- what the reading of a row comes to: its head, its cells and its count; what it has read, whether its link is wild (02,
+-- ticket 1: "The reading of one row should now also say" so), and what it leads to
+abbrev pub readOf : Chain → Row → RowRead
+readOf c row =
     record {
-      cells = cells;
-      count = cells;
-      walked =
-          record {
-            reads = cells + 3;
-            wild = wildLink screen (head .start + cells);
-            next = Row (link screen attribute (head .start + cells));
-          };
-    }
-readTo capacity screen attribute head Missing =
-    record {
-      cells = capacity;
-      count = tornCount;
-      walked = record { reads = capacity + 1; wild = false; next = Dark };
+      head = headOf row;
+      cells = cellsShown c row;
+      count = count row;
+      reads = reads c row;
+      wild = wild c row;
+      next = aheadAfter c row;
     }
 
-abbrev pub rowRead : (capacity : ℕ) → (screen attribute : List ℕ) → Head → RowRead
-rowRead capacity screen attribute head =
-    readTo capacity screen attribute head (firstFF screen (head .start) 0 (capacity + 1))
+-- of the row that lies ahead
+abbrev pub rowRead : Chain → Ahead → RowRead
+rowRead c ahead = readOf c (rowAhead c ahead)
 
--- and its record
-abbrev pub recordRead : (screen attribute : List ℕ) → Head → RowRead → List ℕ
-recordRead screen attribute head row =
-    header head (row .count)
-    ++ (cellPairs screen attribute (head .start) (row .cells) ++ fillPairs (recordPairs - row .cells))
+-- of a row that has no link: it is not wild, and leads to a dark one
+abbrev pub noLink : (head : Head) → (cells count reads : ℕ) → RowRead
+noLink head cells count reads =
+    record { head = head; cells = cells; count = count; reads = reads; wild = false; next = Dark }
 
-abbrev pub rowDrawn : (capacity : ℕ) → (screen attribute : List ℕ) → Head → List ℕ
-rowDrawn capacity screen attribute head = recordRead screen attribute head (rowRead capacity screen attribute head)
-
--- of the row that lies ahead: what it has read, whether its link is wild (02, ticket 1: "The reading of one row should
--- now also say" so), and what it leads to
-abbrev pub walked : Chain → Ahead → Walked
-walked c ahead =
-    let row = rowAhead c ahead in
-    record { reads = reads c row; wild = wild c row; next = aheadAfter c row }
-
--- the record of the row that lies ahead
-abbrev pub drawnAhead : Chain → Ahead → List ℕ
-drawnAhead c ahead = recordOf c (rowAhead c ahead)
+-- the record of a row that was read
+abbrev pub recordRead : (screen attribute : List ℕ) → RowRead → List ℕ
+recordRead screen attribute row =
+    header (row .head) (row .count)
+    ++ (cellPairs screen attribute (row .head .start) (row .cells) ++ fillPairs (recordPairs - row .cells))

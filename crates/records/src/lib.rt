@@ -8,7 +8,7 @@ ghost use Rattle.lent.specs.Lengths.{screenBytes, attributeBytes};
 ghost use Rattle.chain.specs.Chain.{chain, places};
 ghost use Rattle.chain.specs.Inner.{Placed};
 ghost use Rattle.records.specs.Record.{recordBytes, headBytes, recordPairs, cellPairs, fillPairs, header};
-ghost use Rattle.records.specs.Inner.{pairsOf, pairsIn, rowRead, rowDrawn, walked, drawnAhead};
+ghost use Rattle.records.specs.Inner.{pairsOf, pairsIn, noLink, rowRead, recordRead};
 use chain::Ahead;
 use chain::Head;
 use chain::Terminator;
@@ -29,19 +29,15 @@ pub const TORN: u8 = 255;
 
 pub const DARK: u8 = 254;
 
-// A row that was walked: the bytes of screen memory that it read, whether its link is wild, and what the
-// chain leads to.
-pub struct Walked {
+// A row that was read: its head, how many cells it shows and its count; and the bytes of screen memory that it read,
+// whether its link is wild, and what the chain leads to.
+pub struct RowRead {
+    pub head: Head,
+    pub cells: usize,
+    pub count: u8,
     pub reads: usize,
     pub wild: bool,
     pub next: Ahead,
-}
-
-// A row that was read: how many cells it shows, its count, and what its walk comes to.
-struct RowRead {
-    cells: usize,
-    count: u8,
-    walked: Walked,
 }
 
 // The pairs of cells that stand next to each other in memory. The loop has no way out but its end, and the parts have
@@ -113,29 +109,28 @@ fn draw_cells(screen: &[u8], attribute: &[u8], start: usize, cells: usize, pairs
 }
 
 // Fills all pairs.
-fn fill(into: &mut [u8])
-    requires { ⌜ length (now into) ≡ recordBytes ⌝ }
-    ensures { λ _. ⌜ pairsOf (now (into .exit)) ≡ fillPairs recordPairs ⌝ }
+fn fill(pairs: &mut [u8])
+    requires { ⌜ length (now pairs) ≡ 2 * recordPairs ⌝ }
+    ensures { λ _. ⌜ now (pairs .exit) ≡ fillPairs recordPairs ⌝ }
 {
-    let into = &mut into[0..RECORD_BYTES];
+    let pairs = &mut pairs[0..2 * RECORD_PAIRS];
     let mut pair = 0;
     while pair < RECORD_PAIRS {
-        let at = HEAD_BYTES + 2 * pair;
-        into[at] = 0x20;
-        into[at + 1] = 0x0E;
+        pairs[2 * pair] = 0x20;
+        pairs[2 * pair + 1] = 0x0E;
         pair += 1;
     }
 }
 
 // Fills the pairs after a row's cells, which are put later: all of them, since a loop of a length that is known is the
 // quickest, or none of a row that leaves none.
-fn fill_after(into: &mut [u8], cells: usize)
+fn fill_after(pairs: &mut [u8], cells: usize)
     requires { ⌜ cells ≤ recordPairs ⌝ }
-    requires { ⌜ length (now into) ≡ recordBytes ⌝ }
-    ensures { λ _. ⌜ drop (2 * cells) (pairsOf (now (into .exit))) ≡ fillPairs (recordPairs - cells) ⌝ }
+    requires { ⌜ length (now pairs) ≡ 2 * recordPairs ⌝ }
+    ensures { λ _. ⌜ drop (2 * cells) (now (pairs .exit)) ≡ fillPairs (recordPairs - cells) ⌝ }
 {
     if cells < RECORD_PAIRS {
-        fill(into);
+        fill(pairs);
     }
 }
 
@@ -151,97 +146,60 @@ fn write_head(into: &mut [u8], head: Head, count: u8)
     into[COUNT_AT] = count;
 }
 
-// Reads a row: up to its terminator, after which the link leads on, or up to its capacity.
-fn read_row(capacity: usize, screen: &[u8], attribute: &[u8], head: Head) -> RowRead
+// A row that has no link, torn or dark: it leads to a dark one.
+fn unlinked(head: Head, cells: usize, count: u8, reads: usize) -> RowRead
+    ensures { λ r. ⌜ r ≡ noLink head cells count reads ⌝ }
+{
+    RowRead {
+        head,
+        cells,
+        count,
+        reads,
+        wild: false,
+        next: Ahead::Dark,
+    }
+}
+
+// Reads the row that lies ahead: up to its terminator, after which the link leads on, or up to its capacity.
+pub fn read_ahead(columns: usize, screen: &[u8], attribute: &[u8], ahead: Ahead) -> RowRead
     requires { ⌜ length (now screen) ≡ screenBytes ⌝ }
     requires { ⌜ length (now attribute) ≡ attributeBytes ⌝ }
-    requires { ⌜ (head .start < places) × (capacity ≤ recordPairs) ⌝ }
-    ensures { λ r. ⌜ r ≡ rowRead capacity (now (screen .entry)) (now (attribute .entry)) head ⌝ }
-    ensures { λ r. ⌜ r .cells ≤ recordPairs ⌝ }
+    requires { ⌜ (columns ≤ recordPairs) × Placed ahead ⌝ }
+    ensures { λ r. ⌜ r ≡ rowRead (chain columns (now (screen .entry)) (now (attribute .entry))) ahead ⌝ }
+    ensures { λ r. ⌜ (r .head .start < places) × (r .cells ≤ recordPairs) ⌝ }
 {
+    let Ahead::Row(head) = ahead else {
+        return unlinked(Head::first(), 0, DARK, 0);
+    };
     let start = head.start as usize;
+    let capacity = chain::capacity(columns, head.kind);
     let Terminator::After(cells) = chain::find_terminator(screen, start, capacity) else {
-        let walked = Walked {
-            reads: capacity + 1,
-            wild: false,
-            next: Ahead::Dark,
-        };
-        return RowRead {
-            cells: capacity,
-            count: TORN,
-            walked,
-        };
+        return unlinked(head, capacity, TORN, capacity + 1);
     };
     let place = start + cells;
     let next = chain::link(screen, attribute, place);
     RowRead {
+        head,
         cells,
         count: cells as u8,
-        walked: Walked {
-            reads: cells + 3,
-            wild: chain::is_wild(screen, place),
-            next: Ahead::Row(next),
-        },
+        reads: cells + 3,
+        wild: chain::is_wild(screen, place),
+        next: Ahead::Row(next),
     }
 }
 
-fn draw_row(capacity: usize, screen: &[u8], attribute: &[u8], head: Head, into: &mut [u8]) -> Walked
+// The record of a row that was read. Reading and drawing are two functions: compilers make both a part of the loops
+// that call them, and one function of both would be too large for that.
+pub fn draw_row(screen: &[u8], attribute: &[u8], row: RowRead, into: &mut [u8])
     requires { ⌜ length (now screen) ≡ screenBytes ⌝ }
     requires { ⌜ length (now attribute) ≡ attributeBytes ⌝ }
-    requires { ⌜ (head .start < places) × (capacity ≤ recordPairs) ⌝ }
+    requires { ⌜ (row .head .start < places) × (row .cells ≤ recordPairs) ⌝ }
     requires { ⌜ length (now into) ≡ recordBytes ⌝ }
-    ensures { λ r. ⌜ r ≡ rowRead capacity (now (screen .entry)) (now (attribute .entry)) head .walked ⌝ }
-    ensures { λ _. ⌜ now (into .exit)
-        ≡ rowDrawn capacity (now (screen .entry)) (now (attribute .entry)) head ⌝ }
+    ensures { λ _. ⌜ now (into .exit) ≡ recordRead (now (screen .entry)) (now (attribute .entry)) row ⌝ }
 {
-    let row = read_row(capacity, screen, attribute, head);
-    let cells = row.cells;
-    fill_after(into, cells);
-    draw_cells(
-        screen,
-        attribute,
-        head.start as usize,
-        cells,
-        &mut into[HEAD_BYTES..RECORD_BYTES],
-    );
-    write_head(into, head, row.count);
-    let walked = row.walked;
-    walked
-}
-
-// The record of the row that lies ahead. The capacity is worked out here, at a call for each, and not in `draw_row`:
-// called from one place alone it would become part of this function, and that too large to become part of its callers'
-// loops, which then keep what lies ahead in memory, and wait for it at every row.
-pub fn draw_ahead(
-    columns: usize,
-    screen: &[u8],
-    attribute: &[u8],
-    ahead: Ahead,
-    into: &mut [u8],
-) -> Walked
-    requires { ⌜ length (now screen) ≡ screenBytes ⌝ }
-    requires { ⌜ length (now attribute) ≡ attributeBytes ⌝ }
-    requires { ⌜ (columns ≤ recordPairs) × Placed ahead ⌝ }
-    requires { ⌜ length (now into) ≡ recordBytes ⌝ }
-    ensures { λ r. ⌜ r ≡ walked (chain columns (now (screen .entry)) (now (attribute .entry))) ahead ⌝ }
-    ensures { λ _. ⌜ now (into .exit)
-        ≡ drawnAhead (chain columns (now (screen .entry)) (now (attribute .entry))) ahead ⌝ }
-{
-    match ahead {
-        Ahead::Row(head) => {
-            if chain::is_wide(head.kind) {
-                return draw_row(columns / 2, screen, attribute, head, into);
-            }
-            draw_row(columns, screen, attribute, head, into)
-        }
-        Ahead::Dark => {
-            fill(into);
-            write_head(into, Head::first(), DARK);
-            Walked {
-                reads: 0,
-                wild: false,
-                next: ahead,
-            }
-        }
-    }
+    write_head(into, row.head, row.count);
+    let pairs = &mut into[HEAD_BYTES..RECORD_BYTES];
+    fill_after(pairs, row.cells);
+    let start = row.head.start as usize;
+    draw_cells(screen, attribute, start, row.cells, pairs);
 }

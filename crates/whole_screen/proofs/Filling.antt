@@ -1,51 +1,16 @@
--- A part of the list, filled from the front: what holds with so many lines, how it begins, goes on and ends.
-use Prim.Native.Nat.{ℕ, _+_, _-_, _*_, _/_, _%_, _≤_, _<_}
-use mathlib.Core.Path.{_≡_, refl, sym, ap, subst, _∙_}
-use mathlib.Core.List.{List, [], _∷_, _++_, append-assoc}
+-- The list is filled in parts.
+use Prim.Native.Nat.{ℕ, _+_, _-_, _*_, _/_, _≤_}
+use mathlib.Core.Path.{_≡_, sym, ap, subst, _∙_}
+use mathlib.Core.List.{List, _++_, append-assoc}
 use native.Mathlib.Omega.{arith}
-use native.Mathlib.Numerals.{add-one}
-use lib.ListN.{length, take, set, length-set}
+use lib.ListN.{length, take}
 use lib.Seq.{take-all}
-use Rattle.records.proofs.Laws.{two-stored}
 use borrow.Rule.Slice.PartMut.{midOf, putMid, mid-len, same-len-mid}
 use Rattle.lent.specs.Lengths.{listBytes}
-use Rattle.picture.specs.Picture.{inOrder}
 use Rattle.lent.proofs.Parts.{part-put}
 use Rattle.whole_screen.specs.Screen.{lines}
-use Rattle.whole_screen.specs.Inner.{numbered, linesFrom}
-use Rattle.whole_screen.proofs.Numbers.{entries-length}
-
-pub record Filling (from lines : ℕ) (part : List ℕ) (line : ℕ) : Type 0 where
-  pub same : length part ≡ 2 * lines
-  pub within : line ≤ lines
-  pub filled : take (2 * line) part ≡ linesFrom from line
-
-pub filling-begins :
-    (from : ℕ) (part : List ℕ) → let lines = length part / 2 in Filling from lines (midOf 0 (2 * lines - 0) part) 0
-unfolding inOrder
-filling-begins from part =
-    record {
-      same = mid-len 0 (2 * (length part / 2)) part (omega arith) ∙ omega arith;
-      within = omega arith;
-      filled = refl;
-    }
-
-module _ {from lines : ℕ} {part : List ℕ} {line : ℕ} (f : Filling from lines part line) where
-  pub filling-goes-on :
-      (row scan : ℕ) → line < lines → numbered (from + line) ≡ row ∷ scan ∷ []
-      → Filling from lines (set (set part (2 * line) row) (2 * line + 1) scan) (line + 1)
-  unfolding inOrder
-  filling-goes-on row scan more is =
-      record {
-        same = simp length-set (f .same);
-        within = omega arith;
-        filled = rw (two-stored part line row scan (omega (arith, f .same)), f .filled, add-one line, is) refl;
-      }
-
-  pub filling-ends : lines ≤ line → part ≡ linesFrom from lines
-  filling-ends all =
-      let last : lines ≡ line = omega (arith, f .within) in
-      sym (take-all (2 * line) part (omega (arith, f .same))) ∙ f .filled ∙ ap (linesFrom from) (sym last)
+use Rattle.whole_screen.specs.Inner.{linesFrom}
+use Rattle.whole_screen.proofs.Numbers.{from-length}
 
 -- a part of the list is lent, and comes back filled: from line `at` on and ahead of line `end`
 module _ (list new : List ℕ) (at end number : ℕ) (some : at ≤ end) (room : 2 * end ≤ length list)
@@ -59,7 +24,7 @@ module _ (list new : List ℕ) (at end number : ℕ) (some : at ≤ end) (room :
       filled ∙ ap (linesFrom number) half
 
   long : length new ≡ 2 * end - 2 * at
-  long = ap (λ (l : List ℕ). length l) part ∙ entries-length (λ k. (number + k) / 10) (λ k. (number + k) % 10 + 1) (end - at) ∙ omega arith
+  long = ap (λ (l : List ℕ). length l) part ∙ from-length number (end - at) ∙ omega arith
 
   pub part-back : length (putMid (2 * at) (2 * end - 2 * at) list new) ≡ length list
   part-back = same-len-mid (2 * at) (2 * end - 2 * at) list new (long ∙ sym lent)

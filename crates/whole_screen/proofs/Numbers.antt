@@ -1,16 +1,14 @@
 -- Laws about lines one after the other, and about the numbers of the lines of all rows.
-use Prim.Native.Nat.{ℕ, zero, suc, _+_, _*_, _/_, _%_, _≤_, _<_}
+use Prim.Native.Nat.{ℕ, zero, suc, _+_, _-_, _*_, _/_, _%_, _≤_, _<_}
 use mathlib.Core.Path.{_≡_, refl, sym, ap, _∙_}
 use mathlib.Core.List.{List, [], _∷_, _++_, append-assoc, append-nil}
-use mathlib.Core.Bool.{Bool, true, false, not}
+use mathlib.Core.Bool.{Bool, true, false}
 use native.Mathlib.Nat.{add-zero, add-suc, add-assoc}
 use native.Mathlib.Omega.{arith}
-use lib.ListN.{length, getD, List·getD-append}
-use lib.Seq.{getD-append-add}
+use lib.ListN.{length, getD, take, drop, List·getD-append}
+use lib.Seq.{getD-append-add, take-at, drop-at}
 use lib.Dec.{eqb}
-use borrow.Author.Tests.{eqb-true, eqb-false, not-false}
-use Rattle.chain.specs.First.{firstThat}
-use Rattle.chain.proofs.First.{first-that}
+use borrow.Author.Tests.{eqb-true, eqb-false}
 use Rattle.picture.specs.Picture.{inOrder}
 use Rattle.picture.proofs.Records.{same-records, pieces-length}
 use Rattle.whole_screen.specs.Screen.{linesOf, inFull}
@@ -57,6 +55,9 @@ module _ (f g : ℕ → ℕ) where
             List·getD-append (inOrder entry n) (entry n) 0 (2 * line + 1) (omega (arith, long, other)) ∙ there .1,
           )
 
+pub from-length : (number count : ℕ) → length (linesFrom number count) ≡ 2 * count
+from-length number count = entries-length (λ k. (number + k) / 10) (λ k. (number + k) % 10 + 1) count ∙ omega arith
+
 -- lines from a number on, and then more
 pub from-split :
     (number m n : ℕ) → linesFrom number (m + n) ≡ linesFrom number m ++ linesFrom (number + m) n
@@ -85,15 +86,17 @@ in-full (suc n) =
     rw (all, in-full n, from-split 0 (n * 10) 10)
     (ap (λ (l : List ℕ). linesFrom 0 (n * 10) ++ l) (of-a-row n 0 10 (0 + n * 10) (omega arith) (omega arith)))
 
--- in a table of all lines, each as one number, none is wrong
-abbrev pub wrong : (all : List ℕ) → (number : ℕ) → Bool
-wrong all number = not (eqb (getD all number 0) ((number % 10 + 1) * 256 + number / 10))
-
-pub all-right : (all : List ℕ) → firstThat (wrong all) 0 linesOfRows ≡ linesOfRows → Listed all
+-- so many lines from a number on, cut out of all
+pub lines-cut :
+    (all : List ℕ) (from count : ℕ) → Listed all → from + count ≤ linesOfRows
+    → take (2 * count) (drop (2 * from) all) ≡ linesFrom from count
 unfolding Listed
-all-right all none number h =
-    let right = not-false _ (first-that (wrong all) 0 linesOfRows .1 .1 .1 number (omega arith) (omega (arith, none))) in
-    let is = eqb-true (getD all number 0) ((number % 10 + 1) * 256 + number / 10) right in
-    let row : getD all number 0 % 256 ≡ number / 10 = omega arith in
-    let scan : getD all number 0 / 256 ≡ number % 10 + 1 = omega arith in
-    rw (row, scan) refl
+lines-cut all from count is few =
+    let rest = linesOfRows - (from + count) in
+    let whole : linesOfRows ≡ from + (count + rest) = omega arith in
+    let first : 0 + from ≡ from = omega arith in
+    let on = is ∙ ap (linesFrom 0) whole ∙ from-split 0 from (count + rest) in
+    ap (λ (l : List ℕ). take (2 * count) (drop (2 * from) l)) on
+    ∙ ap (take (2 * count)) (drop-at (linesFrom 0 from) (linesFrom (0 + from) (count + rest)) (2 * from) (from-length 0 from))
+    ∙ ap (take (2 * count)) (ap (λ (k : ℕ). linesFrom k (count + rest)) first ∙ from-split from count rest)
+    ∙ take-at (linesFrom from count) (linesFrom (from + count) rest) (2 * count) (from-length from count)

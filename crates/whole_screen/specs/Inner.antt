@@ -1,10 +1,9 @@
 -- No sentence of a document: what our own functions promise each other. All rows in full have ten lines each, which are
 -- numbered from the top, and the list is told by these numbers.
-use Prim.Native.Nat.{ℕ, _+_, _-_, _*_, _/_, _%_, _<_}
+use Prim.Native.Nat.{ℕ, _+_, _-_, _*_, _/_, _%_}
 use mathlib.Core.Path.{_≡_}
 use mathlib.Core.List.{List, [], _∷_}
 use mathlib.Core.Bool.{Bool, not, cond}
-use lib.ListN.{getD}
 use lib.Dec.{ltb}
 use Rattle.chain.specs.Chain.{rows}
 use Rattle.picture.specs.Picture.{inOrder}
@@ -18,13 +17,13 @@ linesOfRows = rows * lastScan
 abbrev pub numbered : (number : ℕ) → List ℕ
 numbered number = number / lastScan ∷ (number % lastScan + firstScan) ∷ []
 
--- all of them in a list, each as one number: the scan above the row
-unfoldable pub Listed : List ℕ → Type 0
-Listed all = (number : ℕ) → number < linesOfRows → numbered number ≡ getD all number 0 % 256 ∷ getD all number 0 / 256 ∷ []
-
 -- so many lines, from a number on
 abbrev pub linesFrom : (number count : ℕ) → List ℕ
 linesFrom number = inOrder (λ more. numbered (number + more))
+
+-- a list of all of them
+unfoldable pub Listed : List ℕ → Type 0
+Listed all = all ≡ linesFrom 0 linesOfRows
 
 -- the test of a row that is asked to scroll, or not to
 abbrev pub asked : (still : Bool) → (kinds : ℕ → ℕ) → (row : ℕ) → Bool

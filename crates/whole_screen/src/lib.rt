@@ -51,29 +51,22 @@ fn first_that(picture: &[u8], from: usize, still: bool) -> usize
 }
 
 // Fills a part of the list. All rows in full have ten lines each, numbered from the top; the part's lines are those
-// from one number on. The parts have the length that the loop goes to, so that the lines can be copied together.
-fn put_lines(all: &[u16; lines::LINES_OF_ROWS], from: usize, part: &mut [u8])
+// from one number on.
+fn put_lines(all: &[u8; 2 * lines::LINES_OF_ROWS], from: usize, part: &mut [u8])
     requires { ⌜ Listed (now all) ⌝ }
     requires { ⌜ length (now part) % 2 ≡ 0 ⌝ }
     requires { ⌜ from + length (now part) / 2 ≤ linesOfRows ⌝ }
     ensures { λ _. ⌜ now (part .exit) ≡ linesFrom from (length (now (part .entry)) / 2) ⌝ }
 {
-    let lines = part.len() / 2;
-    let part = &mut part[0..2 * lines];
     let all = &all[..];
-    let asked = &all[from..from + lines];
-    let mut line = 0;
-    while line < lines {
-        part[2 * line] = (asked[line] % 256) as u8;
-        part[2 * line + 1] = (asked[line] / 256) as u8;
-        line += 1;
-    }
+    let at = 2 * from;
+    lent::copy(&all[at..at + part.len()], part);
 }
 
 // Fills the list where a run scrolls, which begins with the row `first` and ends ahead of the row `end`. Of all lines
 // the run's first row lacks the top ones, as many as the latch says, and its last row so many that a row is gone.
 fn put_scrolled(
-    all: &[u16; lines::LINES_OF_ROWS],
+    all: &[u8; 2 * lines::LINES_OF_ROWS],
     first: usize,
     end: usize,
     latch: usize,

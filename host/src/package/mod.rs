@@ -18,6 +18,10 @@ const INNER: [&str; 5] = ["dc011", "dc012", "diagnostic", "readers", "dots"];
 /// Those that are of use to the programs alone.
 const OF_PROGRAMS: [&str; 2] = ["ascii", "commands"];
 
+/// Functions that are made a part of the loops in other crates that call them. The kit's compiler does so by itself;
+/// rustc, whose tests of indexes make them larger, has to be told.
+const IN_LOOPS: [(&str, &[&str]); 1] = [("records", &["read_ahead", "draw_row", "draw_cells"])];
+
 /// The crate with the names of C, and the file that C calls.
 const C_NAMES: &str = "rainbow";
 const C_FILE: &str = "src/c.rs";
@@ -86,6 +90,12 @@ fn program_uses(one: &Crate, text: &str, is_main: bool) -> Vec<String> {
     lines
 }
 
+/// The functions of a crate that become parts of loops.
+fn in_loops(name: &str) -> &'static [&'static str] {
+    let named = IN_LOOPS.iter().find(|(one, _)| *one == name);
+    named.map_or(&[], |(_, functions)| functions)
+}
+
 /// The files made from a crate.
 fn of_crate(root: &Path, one: &Crate) -> io::Result<Files> {
     let sources = files_of(root, &one.name)?;
@@ -99,7 +109,7 @@ fn of_crate(root: &Path, one: &Crate) -> io::Result<Files> {
         };
         let made = Made {
             source: Some(source.clone()),
-            text: module::module(&text, &uses),
+            text: module::module(&text, &uses, in_loops(&one.name)),
         };
         files.insert(place(one, source, sources.len() == 1), made);
     }

@@ -1,11 +1,13 @@
 //! A file of Rattle as a module of Rust: what the prover alone reads is taken away, remarks above items become doc
 //! comments, and what Rust has to be told beside it is added outside of the functions: the modules that the file names,
-//! and that structs and enums are values that are copied.
+//! that structs and enums are values that are copied, and which functions are parts of the loops that call them.
 use crate::rattle::code::{self, Token};
 
-/// The text of a module. `uses` are the lines that name other modules.
-pub fn module(text: &str, uses: &[String]) -> String {
+/// The text of a module. `uses` are the lines that name other modules, `in_loops` the functions that become parts of the
+/// loops that call them.
+pub fn module(text: &str, uses: &[String], in_loops: &[&str]) -> String {
     let mut writer = Writer {
+        in_loops,
         out: Vec::new(),
         remark: Vec::new(),
         place: Place::Outside,
@@ -35,6 +37,7 @@ enum Place {
 }
 
 struct Writer<'a> {
+    in_loops: &'a [&'a str],
     out: Vec<String>,
     /// A remark whose item has not come yet.
     remark: Vec<&'a str>,
@@ -62,6 +65,12 @@ fn is_function(line: &str) -> bool {
     let line = line.strip_prefix("pub ").unwrap_or(line);
     let line = line.strip_prefix("extern \"C\" ").unwrap_or(line);
     line.starts_with("fn ")
+}
+
+/// The name of the function whose head begins with a line.
+fn name(line: &str) -> &str {
+    let (_, name) = line.split_once("fn ").unwrap_or_default();
+    name.split_once('(').map_or(name, |(name, _)| name)
 }
 
 fn is_value(line: &str) -> bool {
@@ -122,6 +131,9 @@ impl<'a> Writer<'a> {
         }
         let mut text = line.replacen("pub extern \"C\" fn", "pub fn", 1);
         if is_function(line) {
+            if self.in_loops.contains(&name(line)) {
+                self.out.push("#[inline(always)]".to_string());
+            }
             if narrow {
                 text = text.replacen("pub fn", "pub(crate) fn", 1);
             }
@@ -182,6 +194,11 @@ mod tests {
 ghost use a.{b};
 use lent::ByteRead;
 
+#[rattlefmt::skip]
+const A: [u8; 2] = [
+    1, 2,
+];
+
 // Of two bytes.
 #[repr(C)]
 pub struct S {
@@ -212,6 +229,10 @@ use crate::lent;
 
 use lent::ByteRead;
 
+const A: [u8; 2] = [
+    1, 2,
+];
+
 /// Of two bytes.
 #[repr(C)]
 #[derive(Clone, Copy, Debug, PartialEq, Eq)]
@@ -221,6 +242,7 @@ pub struct S {
 }
 
 /// One more.
+#[inline(always)]
 pub(crate) fn f(a: u8) -> u8 {
     // Less.
     other::g(a) + lent::ONE
@@ -230,7 +252,8 @@ fn h() {
     f(1);
 }
 ";
-        assert_eq!(module(FILE, &["use crate::lent;".to_string()]), wanted);
+        let uses = ["use crate::lent;".to_string()];
+        assert_eq!(module(FILE, &uses, &["f", "g"]), wanted);
     }
 
     #[test]

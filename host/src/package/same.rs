@@ -87,7 +87,8 @@ fn block(tokens: &[Token], open: &str, close: &str) -> usize {
     tokens.len()
 }
 
-/// What the prover alone reads, and how C is told of a function: so many tokens at the beginning may be left out.
+/// What the prover alone reads, how C is told of a function, and how a table is laid out: so many tokens at the
+/// beginning may be left out.
 fn left_out(source: &[Token]) -> usize {
     if starts(source, &["ghost", "use"]) {
         return up_to(source, ";");
@@ -95,8 +96,10 @@ fn left_out(source: &[Token]) -> usize {
     if starts(source, &["requires", "{"]) || starts(source, &["ensures", "{"]) {
         return block(source, "{", "}");
     }
-    if starts(source, &["#", "[", "no_mangle", "]"]) {
-        return 4;
+    if starts(source, &["#", "[", "no_mangle", "]"])
+        || starts(source, &["#", "[", "rattlefmt", ":", ":", "skip", "]"])
+    {
+        return block(source, "[", "]");
     }
     if starts(source, &["extern", "\"C\""]) {
         return 2;
@@ -106,7 +109,7 @@ fn left_out(source: &[Token]) -> usize {
 
 /// What Rust is told beside the source: so many tokens at the beginning may be more.
 fn added(made: &[Token], before: Option<&Token>) -> usize {
-    if starts(made, &["#", "[", "derive"]) {
+    if starts(made, &["#", "[", "derive"]) || starts(made, &["#", "[", "inline"]) {
         return block(made, "[", "]");
     }
     if starts(made, &["(", "crate", ")"]) && before.is_some_and(|token| token.text == "pub") {
@@ -249,7 +252,7 @@ pub extern \"C\" fn f(a: u8) -> u8
 ";
 
     fn made() -> String {
-        module(FILE, &["use crate::lent;".to_string()])
+        module(FILE, &["use crate::lent;".to_string()], &[])
     }
 
     #[test]
@@ -271,6 +274,7 @@ pub extern \"C\" fn f(a: u8) -> u8
             ("use lent::ByteRead;", "use lent::Other;"),
             ("    if a", "    use crate::lent;\n    if a"),
             ("    if a", "    #[allow(dead_code)]\n    if a"),
+            ("    if a", "    #[inline(always)]\n    if a"),
             ("pub(crate) fn f(a: u8)", "pub(crate) fn f(a: u16)"),
         ] {
             let other = made().replacen(old, new, 1);
@@ -288,6 +292,14 @@ pub extern \"C\" fn f(a: u8) -> u8
         assert_eq!(why, "a public function has lost its requires");
         let private = made().replacen("pub(crate) fn", "fn", 1);
         assert!(compare(FILE, &private).is_err());
+    }
+
+    #[test]
+    fn what_a_compiler_is_told_beside_the_text() {
+        let source = "#[rattlefmt::skip]\nconst A: u8 = 1;\n\nfn f() {}\n";
+        let made = module(source, &[], &["f"]);
+        assert_eq!(made, "const A: u8 = 1;\n\n#[inline(always)]\nfn f() {}\n");
+        assert!(compare(source, &made).is_ok());
     }
 
     #[test]

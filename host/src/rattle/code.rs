@@ -22,7 +22,7 @@ const SIGNS: [&str; 20] = [
     "..", "/=", "%=", "|=", "&=",
 ];
 
-/// The `ghost use` lines and the contracts.
+/// The `ghost use` lines and the contracts, and the lines that the kit's formatter alone reads.
 fn ghost_parts(text: &str) -> Vec<Range<usize>> {
     let mut parts: Vec<Range<usize>> = Vec::new();
     let mut at = 0;
@@ -33,7 +33,7 @@ fn ghost_parts(text: &str) -> Vec<Range<usize>> {
         if parts.last().is_some_and(|part| from < part.end) {
             continue;
         }
-        if code.starts_with("ghost use ") {
+        if code.starts_with("ghost use ") || code.starts_with("#[rattlefmt::skip]") {
             parts.push(from..at - 1);
         } else if code.starts_with("requires {") || code.starts_with("ensures {") {
             parts.push(from..from + block(&text[from..]));
@@ -56,7 +56,7 @@ fn block(text: &str) -> usize {
     text.len()
 }
 
-/// A line of a file, and whether the prover alone reads it.
+/// A line of a file, and whether the kit alone reads it.
 pub struct Line<'a> {
     pub text: &'a str,
     pub ghost: bool,
@@ -78,7 +78,7 @@ pub fn lines(text: &str) -> Vec<Line<'_>> {
     lines
 }
 
-/// The file as Rust: without what the prover alone reads; structs and enums are values that are copied.
+/// The file as Rust: without what the kit alone reads; structs and enums are values that are copied.
 pub fn rust(text: &str) -> String {
     let mut code = String::new();
     let mut at = 0;
@@ -177,6 +177,7 @@ mod tests {
     const FILE: &str = "\
 // A file.
 ghost use a.{b};
+#[rattlefmt::skip]
 #[repr(C)]
 pub struct S {
     pub a: u8,
@@ -194,7 +195,7 @@ pub fn f(a: u8) -> u8
     #[test]
     fn contracts_are_taken_away() {
         let code = rust(FILE);
-        assert!(!code.contains('≡') && !code.contains("ghost"));
+        assert!(!code.contains('≡') && !code.contains("ghost") && !code.contains("skip"));
         assert!(code.contains("#[derive(Clone, Copy)]\npub struct S {"));
         assert!(code.contains("pub fn f(a: u8) -> u8"));
         assert!(code.contains("    a <= b'+' // less\n}"));

@@ -6,6 +6,7 @@ use borrow.Author.Needs.{needs}
 use Rattle.chain.specs.Chain.{chain, rows}
 use Rattle.chain.proofs.Laws.{ahead-placed}
 use Rattle.records.specs.Record.{recordBytes}
+use Rattle.records.proofs.Rows.{drawn-as-read}
 use Rattle.picture.proofs.Records.{record-lent}
 use Rattle.marks.proofs.Laws.{marks-under}
 use Rattle.mending.proofs.Walk.{Mending, mend-begins, mend-goes-on, mend-ends}
@@ -32,37 +33,46 @@ loop-holds c =
     let p = s .pre in
     (mend-begins _ _ _ (p .1 .1 .1 .0 .0) (p .1 .1 .0) (s .args .first .ahead) (p .1 .1 .1 .0 .1) (p .1 .1 .1 .1), refl)
 
-draw-ahead-requires : tie.Need-draw-ahead-requires Inv-loop μ-loop
-draw-ahead-requires c κs =
-    let i = c .before in
-    let l = i .before in
+read-ahead-requires : tie.Need-read-ahead-requires Inv-loop μ-loop
+read-ahead-requires c κs =
+    let l = c .before in
     let p = l .before .before .before .before .before .before .pre in
-    (p .0, (p .1 .0, ((p .1 .1 .1 .0 .0, rw (l .loop .inv .0 .comes (i .loop-test .taken)) (ahead-placed _ _)), l .loop .inv .1)))
+    (p .0, (p .1 .0, (p .1 .1 .1 .0 .0, rw (l .loop .inv .0 .comes (c .loop-test .taken)) (ahead-placed _ _))))
 
-replace-record-requires : tie.Need-replace-record-requires Inv-loop μ-loop
-replace-record-requires c κs =
+draw-row-requires : tie.Need-draw-row-requires Inv-loop μ-loop
+draw-row-requires c κs =
+    let a = c .before in
+    let l = a .before .before in
+    let p = l .before .before .before .before .before .before .pre in
+    (p .0, (p .1 .0, (a .read-ahead .ensures .1, l .loop .inv .1)))
+
+-- the room has its length again after a row is drawn in it
+room : (d : tie.After-draw-row Inv-loop μ-loop) → length (d .draw-row .last .1 .1 .1 .0) ≡ recordBytes
+room d = d .draw-row .kept .1 .1 .1 .0 ∙ d .before .before .before .before .loop .inv .1
+
+replace-requires : tie.Need-replace-requires Inv-loop μ-loop
+replace-requires c κs =
     let d = c .before .before .before in
-    let i = d .before .before in
-    let l = i .before in
-    (record-lent _ _ (l .loop .inv .0 .same) (i .loop-test .taken), d .draw-ahead .kept .1 .1 .1 .1 .0 ∙ l .loop .inv .1)
+    let i = d .before .before .before in
+    (record-lent _ _ (i .before .loop .inv .0 .same) (i .loop-test .taken), room d)
 
 mark-requires : tie.Need-mark-requires Inv-loop μ-loop
 mark-requires c κs =
-    let m = c .before .before .before .before .before .before .before .before .before .loop .inv .0 in
+    let m = c .before .before .before .before .before .before .before .before .before .before .loop .inv .0 in
     (rw (m .told) (marks-under _ _), omega arith)
 
 loop-again : tie.Need-loop-again Inv-loop μ-loop
 loop-again c =
     let r = c .before .before .before in
     let d = r .before .before .before .before in
-    let i = d .before .before in
+    let a = d .before .before in
+    let i = a .before in
     let l = i .before in
     let p = l .before .before .before .before .before .before .pre in
-    let room = d .draw-ahead .kept .1 .1 .1 .1 .0 ∙ l .loop .inv .1 in
-    let drawn = d .draw-ahead .ensures in (
-      mend-goes-on _ _ _ (p .1 .1 .1 .0 .0) (p .1 .1 .0) (l .loop .inv .0) (i .loop-test .taken) (drawn .1) room (rw (drawn .0))
-          (r .replace-record .ensures) (c .mark .ensures),
-      room,
+    let read = a .read-ahead .ensures .0 in (
+      mend-goes-on _ _ _ (p .1 .1 .1 .0 .0) (p .1 .1 .0) (l .loop .inv .0) (i .loop-test .taken)
+          (drawn-as-read _ (l .loop .ahead) read (d .draw-row .ensures)) (room d) (rw read) (r .replace .ensures) (c .mark .ensures),
+      room d,
     )
 
 returns-2 : tie.Need-returns-2 Inv-loop μ-loop
@@ -78,13 +88,14 @@ mend-spec =
     loop-holds
     (λ c. search needs)
     (λ c. search needs)
+    read-ahead-requires
     (λ c. search needs)
-    draw-ahead-requires
+    draw-row-requires
     (λ c. search needs)
     (λ c. search needs)
     (λ c. search needs)
     (λ c. search needs)
-    replace-record-requires
+    replace-requires
     mark-requires
     (λ c. search needs)
     (λ c. search needs)

@@ -4,6 +4,7 @@ use native.Mathlib.Omega.{arith}
 use borrow.Author.Needs.{needs}
 use Rattle.chain.specs.Chain.{chain, rows}
 use Rattle.chain.proofs.Laws.{ahead-placed}
+use Rattle.records.proofs.Rows.{drawn-as-read}
 use Rattle.picture.proofs.Records.{record-lent}
 use Rattle.picture.proofs.Walk.{Walking, walk-begins, count-fits, sum-fits, walk-goes-on, walk-ends}
 use Rattle.picture.proofs.draw_rows.Statement.{statement}
@@ -22,27 +23,37 @@ first-requires c κs = search needs
 loop-holds : tie.Need-loop-holds Inv-loop μ-loop
 loop-holds c = rw (c .first .ensures) (walk-begins _ _ (search needs))
 
-draw-ahead-requires : tie.Need-draw-ahead-requires Inv-loop μ-loop
-draw-ahead-requires c κs =
-    let l = c .before .before in
+read-ahead-requires : tie.Need-read-ahead-requires Inv-loop μ-loop
+read-ahead-requires c κs =
+    let l = c .before in
     let p = l .before .before .before .before .before .pre in
-    (p .0, (p .1 .0, ((p .1 .1 .1, rw (l .loop .inv .comes) (ahead-placed _ _)), record-lent _ _ (l .loop .inv .same) (c .before .loop-test .taken))))
+    (p .0, (p .1 .0, (p .1 .1 .1, rw (l .loop .inv .comes) (ahead-placed _ _))))
+
+draw-row-requires : tie.Need-draw-row-requires Inv-loop μ-loop
+draw-row-requires c κs =
+    let r = c .before in
+    let l = r .before .before in
+    let p = l .before .before .before .before .before .pre in
+    (p .0, (p .1 .0, (r .read-ahead .ensures .1, record-lent _ _ (l .loop .inv .same) (r .before .loop-test .taken))))
 
 add-reads : tie.Need-add-reads Inv-loop μ-loop
 add-reads c =
-    let d = c .before .before .before in
-    let l = d .before .before .before in
+    let r = c .before .before .before .before .before in
+    let l = r .before .before in
     let wide = l .before .before .before .before .before .pre .1 .1 .1 in
-    omega (arith, sum-fits (l .loop .inv) (d .before .before .loop-test .taken) (d .draw-ahead .ensures .0) wide)
+    omega (arith, sum-fits (l .loop .inv) (r .before .loop-test .taken) (r .read-ahead .ensures .0) wide)
 
 loop-again : tie.Need-loop-again Inv-loop μ-loop
 loop-again c =
     let d = c .before .before .before .before in
-    let w = d .before .before .before .loop .inv in
-    let more = d .before .before .loop-test .taken in
+    let r = d .before .before in
+    let l = r .before .before .loop in
+    let w = l .inv in
+    let more = r .before .loop-test .taken in
+    let read = r .read-ahead .ensures .0 in
     rw (c .name .ensures)
-    (walk-goes-on w more (d .draw-ahead .ensures .0) (d .draw-ahead .ensures .1)
-    (d .draw-ahead .kept .1 .1 .1 .1 .0 ∙ record-lent _ _ (w .same) more))
+    (walk-goes-on w more read (drawn-as-read _ (l .ahead) read (d .draw-row .ensures))
+    (d .draw-row .kept .1 .1 .1 .0 ∙ record-lent _ _ (w .same) more))
 
 cast-accepted : tie.Need-cast-accepted Inv-loop μ-loop
 cast-accepted c =
@@ -66,10 +77,11 @@ draw-rows-spec =
     loop-holds
     (λ c. search needs)
     (λ c. search needs)
+    read-ahead-requires
     (λ c. search needs)
     (λ c. search needs)
     (λ c. search needs)
-    draw-ahead-requires
+    draw-row-requires
     add-reads
     (λ c. search needs)
     (λ c κs. search needs)

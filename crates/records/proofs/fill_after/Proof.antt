@@ -11,7 +11,7 @@ returns c =
 returns-2 : tie.Need-returns-2
 returns-2 c =
     let s = c .before .before in
-    none-after (s .args .into .now) (s .args .cells) (s .pre .1) (c .if1 .left)
+    none-after (s .args .pairs .now) (s .args .cells) (s .pre .1) (c .if1 .left)
 
 pub fill-after-spec : {M : Type 1} → statement M
 fill-after-spec = tie.close (tie.spec (λ c κs. search needs) (λ c. search needs) returns returns-2)

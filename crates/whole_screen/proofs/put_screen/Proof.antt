@@ -1,16 +1,16 @@
 use mathlib.Core.Path.{refl, _∙_}
 use borrow.Author.Needs.{needs}
-use Rattle.chain.specs.First.{firstThat}
+use Rattle.picture.specs.Picture.{inOrder}
 use Rattle.whole_screen.specs.Call.{kindsIn}
-use Rattle.whole_screen.proofs.Numbers.{all-right}
+use Rattle.whole_screen.specs.Inner.{Listed}
 use Rattle.whole_screen.proofs.Run.{start-found, start-within, rest-told, run-found}
 use Rattle.whole_screen.proofs.ByNumber.{screen-at-rest, screen-scrolled}
 use Rattle.whole_screen.proofs.put_screen.Statement.{statement}
 use Rattle.whole_screen.proofs.put_screen.Tie as tie
 
 put-lines-requires : tie.Need-put-lines-requires
-unfolding firstThat
-put-lines-requires c κs = (all-right _ refl, search needs)
+unfolding Listed inOrder
+put-lines-requires c κs = (refl, search needs)
 
 returns : tie.Need-returns
 returns c =
@@ -27,14 +27,14 @@ first-that-requires-2 c κs =
     (search needs, start-within kinds (c .before .before .first-that .ensures))
 
 put-scrolled-requires : tie.Need-put-scrolled-requires
-unfolding firstThat
+unfolding Listed inOrder
 put-scrolled-requires c κs =
     let t = c .before .before .before in
     let given = t .before .before .before .before .args in
     let f =
     run-found (kindsIn (given .picture .now)) (given .latch) (t .before .first-that .ensures)
     (c .before .first-that2 .ensures) (t .if1 .left) in
-    (all-right _ refl, ((f .some, f .among), (search needs, search needs)))
+    (refl, ((f .some, f .among), (search needs, search needs)))
 
 returns-2 : tie.Need-returns-2
 returns-2 c =
