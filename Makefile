@@ -5,7 +5,7 @@
 # What others use, with cargo:
 # make rust       the library and the programs as a Cargo package, target/rust/rainbow
 # make library    librainbow.a and librainbow.so for this machine, target/library
-# make programs   rows, tube and monitor for this machine, target/native; tools/run runs them
+# make programs   rows, tube, why and monitor for this machine, target/native; tools/run runs them
 # make install    headers, library, rainbow.pc and programs to PREFIX (/usr/local); make uninstall takes them away
 # make examples   the examples in C, Rust and Python, run
 #
@@ -14,8 +14,8 @@
 #                 the Cargo package
 # make docs       the documents against the tree
 # make host       the library from C, C++, Rust and Python, each call beside the model; the package, the installation
-# make compare    the row lister beside the model on 5,000 screens that are hard to walk, the tube on 500; the monitor's
-#                 scripts
+# make compare    the row lister beside the model on 5,000 screens that are hard to walk, the tube on 500, why on 5,000
+#                 questions; the monitor's scripts
 # make mutants    mutants of the code, each against the stored runs; CRATES='a b' for some crates
 # make bench      the library beside plain C and the best C that we can write, in time and in instructions
 # make emulated   the kit's own archive and programs, which are for x86-64, beside the library of this machine
@@ -38,7 +38,7 @@ MACHINE := $(shell uname -m)
 VERSION := $(shell sed -n 's/^.define RAINBOW_VERSION //p' include/rainbow.h)
 SHARED = librainbow.so.$(VERSION)
 PACKAGE = target/rust/rainbow
-PROGRAMS = rows tube monitor
+PROGRAMS = rows tube why monitor
 
 # Two libraries are made of the same source: target/library by rustc, for the machine at hand, and target/library-kit by
 # the kit's compiler, for x86-64 alone. LIBRARY is the one that a part of make host tries; KIT says whether there
@@ -60,7 +60,7 @@ STRICT = -O2 -Iinclude -Wall -Wextra -Wpedantic -Wconversion -Wshadow -Werror
 C = $(CC) -std=c11 $(STRICT)
 CPP = $(CXX) -std=c++17 $(STRICT) -x c++
 FAULTS = 1 2 3 4 5 6 7 8 9 10 11 12 13 15 16 17 18 19 20 21 22 23 24 25 26 27 28 29 30 31 32 33 34 35 36 37 38 39 40 \
-	41
+	41 42 43 44 45 46 47 48 49 50
 # A fault of the second of two libraries.
 BOTH_FAULT = 14
 
@@ -94,11 +94,14 @@ counts: model
 	$(MODEL)/check_docs --write .
 
 expected: model
-	@mkdir -p $(INTO)/rows $(INTO)/tube $(INTO)/monitor
+	@mkdir -p $(INTO)/rows $(INTO)/tube $(INTO)/why $(INTO)/monitor
 	$(MODEL)/expected_rows screen > $(INTO)/rows/stdin
 	$(MODEL)/expected_rows > $(INTO)/rows/stdout
 	$(MODEL)/expected_tube memories > $(INTO)/tube/stdin
 	$(MODEL)/expected_tube > $(INTO)/tube/stdout
+	$(MODEL)/expected_why screen > $(INTO)/why/stdin
+	$(MODEL)/expected_why arguments > $(INTO)/why/args
+	$(MODEL)/expected_why > $(INTO)/why/stdout
 	ls crates/monitor/data > $(INTO)/monitor/args
 	cd crates/monitor/data && $(abspath $(MODEL))/expected_monitor \
 		$$(cat $(abspath $(INTO))/monitor/args) > $(abspath $(INTO))/monitor/stdout
@@ -193,10 +196,12 @@ compare: model programs
 	cd crates/monitor/data && $(abspath target/native/monitor) $$(cat ../args) | cmp ../stdout -
 	$(MODEL)/compare_rows target/native/rows 5000
 	$(MODEL)/compare_tube target/native/tube 500
+	$(MODEL)/compare_why target/native/why 5000
 ifneq ($(KIT),)
-	rt check rows tube
+	rt check rows tube why
 	$(MODEL)/compare_rows 'tools/run --kit rows' 5000
 	$(MODEL)/compare_tube 'tools/run --kit tube' 500
+	$(MODEL)/compare_why 'tools/run --kit why' 5000
 endif
 
 mutants: model
@@ -287,9 +292,10 @@ emulated: model archive library programs
 	@mkdir -p target/host
 	CC='$(CC)' tools/kit compile target/host/serve host/serve.c target/staticlib/librainbow.a
 	$(LOAD) --calls $(EMULATED_CALLS) --against 'run:tools/kit run target/host/serve' target/library/librainbow.so
-	rt check rows tube
+	rt check rows tube why
 	$(MODEL)/compare_rows 'tools/run --kit rows' 200
 	$(MODEL)/compare_tube 'tools/run --kit tube' 50
+	$(MODEL)/compare_why 'tools/run --kit why' 200
 	@if command -v $(CROSS) >/dev/null; then \
 		$(MAKE) host-c host-fences CC=$(CROSS) LIBRARY=target/staticlib RUN='tools/kit run' SANITIZE=; \
 	else echo 'no $(CROSS): the C programs are left out'; fi

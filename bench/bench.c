@@ -26,6 +26,8 @@ typedef uint8_t store_only_call(rainbow_machine, uint8_t *, size_t, uint8_t *, s
 typedef uint8_t scan_line_call(rainbow_machine, const uint8_t *, size_t, const uint8_t *, size_t, size_t, size_t,
                                uint8_t *, size_t);
 typedef uint8_t list_lines_call(rainbow_machine, const uint8_t *, size_t, uint8_t *, size_t);
+typedef rainbow_explained explain_call(rainbow_machine, const uint8_t *, size_t, const uint8_t *, size_t, size_t,
+                                       size_t);
 
 typedef struct {
     const char *name;
@@ -34,6 +36,7 @@ typedef struct {
     store_only_call *store_only;
     scan_line_call *scan_line;
     list_lines_call *list_lines;
+    explain_call *explain;
 } side;
 
 #ifdef WITH_KIT
@@ -42,26 +45,29 @@ store_call kit_rainbow_store_with_picture;
 store_only_call kit_rainbow_store_8088;
 scan_line_call kit_rainbow_scan_line;
 list_lines_call kit_rainbow_list_lines;
+explain_call kit_rainbow_explain;
 #endif
 #ifdef WITH_CLANG
 draw_call clang_best_draw;
 store_call clang_best_store_with_picture;
 scan_line_call clang_best_scan_line;
 list_lines_call clang_best_list_lines;
+explain_call clang_best_explain;
 #endif
 
 /* The first side is the one that the others are compared with. */
 static const side sides[] = {
-    {"rustc", rainbow_draw, rainbow_store_with_picture, rainbow_store_8088, rainbow_scan_line, rainbow_list_lines},
+    {"rustc", rainbow_draw, rainbow_store_with_picture, rainbow_store_8088, rainbow_scan_line, rainbow_list_lines,
+     rainbow_explain},
 #ifdef WITH_KIT
     {"kit", kit_rainbow_draw, kit_rainbow_store_with_picture, kit_rainbow_store_8088, kit_rainbow_scan_line,
-     kit_rainbow_list_lines},
+     kit_rainbow_list_lines, kit_rainbow_explain},
 #endif
-    {"plain", plain_draw, plain_store_with_picture, plain_store_8088, plain_scan_line, plain_list_lines},
-    {"best", best_draw, best_store_with_picture, plain_store_8088, best_scan_line, best_list_lines},
+    {"plain", plain_draw, plain_store_with_picture, plain_store_8088, plain_scan_line, plain_list_lines, plain_explain},
+    {"best", best_draw, best_store_with_picture, plain_store_8088, best_scan_line, best_list_lines, best_explain},
 #ifdef WITH_CLANG
     {"best-clang", clang_best_draw, clang_best_store_with_picture, plain_store_8088, clang_best_scan_line,
-     clang_best_list_lines},
+     clang_best_list_lines, clang_best_explain},
 #endif
 };
 
@@ -231,6 +237,17 @@ static void tube_by_list(const side *with) {
     }
 }
 
+static void explain_cell(const side *with, size_t row, size_t column) {
+    rainbow_explained why = with->explain(machine, SCREEN, ATTRIBUTE, row, column);
+    answers = answers * 31 + why.refusal * 8u + why.answer;
+    answers = answers * 31 + why.place * 8u + why.kind;
+    answers = answers * 31 + (why.link * 32u + why.tore) * 2u + why.linked;
+}
+
+static void explain_row_0(const side *with) { explain_cell(with, 0, 40); }
+static void explain_row_12(const side *with) { explain_cell(with, 12, 40); }
+static void explain_row_24(const side *with) { explain_cell(with, 24, 40); }
+
 static const struct job {
     const char *name;
     layout screens;
@@ -273,6 +290,10 @@ static const struct job {
     {"list", FULL, 80, 7, 5, list},
     {"list-rest", FULL, 80, 7, 0, list},
     {"tube-by-list", FULL, 80, 7, 5, tube_by_list},
+    {"explain-row-0", FULL, 80, 3, 0, explain_row_0},
+    {"explain-row-12", FULL, 80, 3, 0, explain_row_12},
+    {"explain-row-24", FULL, 80, 3, 0, explain_row_24},
+    {"explain-row-24-132", FULL, 132, 3, 0, explain_row_24},
 };
 
 enum { JOBS = sizeof jobs / sizeof jobs[0], BATCHES = 60, MIXED = 2000 };
@@ -354,6 +375,8 @@ static void mixed(const side *with, unsigned seed) {
         answers = answers * 31 + refusal;
     }
     answers = answers * 31 + with->list_lines(machine, PICTURE, LIST);
+    for (int i = 0; i < 8; i++)
+        explain_cell(with, choose(26), choose(134));
 }
 
 static void compare_mixed(void) {

@@ -276,3 +276,40 @@ uint8_t best_list_lines(rainbow_machine machine, const uint8_t *picture, size_t 
     memcpy(list + below, all_lines + below + 20, RAINBOW_LIST_BYTES - below);
     return RAINBOW_ACCEPTED;
 }
+
+rainbow_explained best_explain(rainbow_machine machine, const uint8_t *screen, size_t screen_length,
+                               const uint8_t *attribute, size_t attribute_length, size_t row, size_t column) {
+    rainbow_explained why = {RAINBOW_REFUSED_LENGTH, 0, 0, 0, 0, false, 0};
+    if (screen_length != RAINBOW_SCREEN_BYTES || attribute_length != RAINBOW_ATTRIBUTE_BYTES)
+        return why;
+    why.refusal = RAINBOW_REFUSED_PLACE;
+    if (row >= RAINBOW_ROWS || column >= RAINBOW_COLUMNS)
+        return why;
+    why.refusal = RAINBOW_ACCEPTED;
+    unsigned columns = machine.columns132 ? 132 : 80, low = 0;
+    head at = first_row;
+    for (unsigned passed = 0; passed < row; passed++) {
+        unsigned start = at.link % PLACES;
+        int ff = find_ff(screen, start, capacity_of(columns, at.kind));
+        if (ff < 0) {
+            why.answer = RAINBOW_WHY_DARK;
+            why.tore = (uint8_t)passed;
+            return why;
+        }
+        at = link_after(screen, attribute, start + (unsigned)ff);
+        low = start + (unsigned)ff + 1;
+    }
+    why.linked = row > 0;
+    why.link = (uint16_t)(low % PLACES);
+    unsigned start = at.link % PLACES, capacity = capacity_of(columns, at.kind);
+    if (column >= capacity) {
+        why.answer = RAINBOW_WHY_PAST;
+        return why;
+    }
+    /* An FF after the column changes nothing. */
+    int ff = find_ff(screen, start, (unsigned)column);
+    why.answer = ff < 0 ? RAINBOW_WHY_CELL : RAINBOW_WHY_FILL;
+    why.place = (uint16_t)((start + (ff < 0 ? (unsigned)column : (unsigned)ff)) % PLACES);
+    why.kind = (uint8_t)(ff < 0 ? at.kind : 0);
+    return why;
+}

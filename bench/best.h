@@ -19,4 +19,7 @@ uint8_t best_scan_line(rainbow_machine machine, const uint8_t *picture, size_t p
 uint8_t best_list_lines(rainbow_machine machine, const uint8_t *picture, size_t picture_length, uint8_t *list,
                         size_t list_length);
 
+rainbow_explained best_explain(rainbow_machine machine, const uint8_t *screen, size_t screen_length,
+                               const uint8_t *attribute, size_t attribute_length, size_t row, size_t column);
+
 #endif

@@ -223,3 +223,43 @@ uint8_t plain_list_lines(rainbow_machine machine, const uint8_t *picture, size_t
     }
     return RAINBOW_ACCEPTED;
 }
+
+rainbow_explained plain_explain(rainbow_machine machine, const uint8_t *screen, size_t screen_length,
+                                const uint8_t *attribute, size_t attribute_length, size_t row, size_t column) {
+    rainbow_explained why = {RAINBOW_REFUSED_LENGTH, 0, 0, 0, 0, false, 0};
+    if (screen_length != RAINBOW_SCREEN_BYTES || attribute_length != RAINBOW_ATTRIBUTE_BYTES)
+        return why;
+    why.refusal = RAINBOW_REFUSED_PLACE;
+    if (row >= RAINBOW_ROWS || column >= RAINBOW_COLUMNS)
+        return why;
+    why.refusal = RAINBOW_ACCEPTED;
+    unsigned columns = machine.columns132 ? 132 : 80;
+    head at = {0, 3, false};
+    for (unsigned passed = 0;; passed++) {
+        unsigned start = at.link % PLACES, capacity = capacity_of(columns, at.kind), cells = 0;
+        while (cells < capacity && screen[(start + cells) % PLACES] != 0xFF)
+            cells++;
+        unsigned end = (start + cells) % PLACES;
+        bool torn = screen[end] != 0xFF;
+        if (passed == row) {
+            if (column >= capacity) {
+                why.answer = RAINBOW_WHY_PAST;
+            } else if (!torn && column >= cells) {
+                why.answer = RAINBOW_WHY_FILL;
+                why.place = (uint16_t)end;
+            } else {
+                why.answer = RAINBOW_WHY_CELL;
+                why.place = (uint16_t)((start + column) % PLACES);
+                why.kind = (uint8_t)at.kind;
+            }
+            return why;
+        }
+        if (torn) {
+            rainbow_explained dark = {RAINBOW_ACCEPTED, RAINBOW_WHY_DARK, 0, 0, (uint8_t)passed, false, 0};
+            return dark;
+        }
+        at = link_after(screen, attribute, end);
+        why.linked = true;
+        why.link = (uint16_t)((end + 1) % PLACES);
+    }
+}

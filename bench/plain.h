@@ -1,5 +1,5 @@
 /* The same jobs in plain C, to measure beside: the documents as a C programmer would write them, with the tests of
- * lengths, reset, addresses, places and the latch that the library makes. */
+ * lengths, reset, addresses, rows, columns, places and the latch that the library makes. */
 #ifndef PLAIN_H
 #define PLAIN_H
 
@@ -20,6 +20,9 @@ uint8_t plain_scan_line(rainbow_machine machine, const uint8_t *picture, size_t 
 
 uint8_t plain_list_lines(rainbow_machine machine, const uint8_t *picture, size_t picture_length, uint8_t *list,
                          size_t list_length);
+
+rainbow_explained plain_explain(rainbow_machine machine, const uint8_t *screen, size_t screen_length,
+                                const uint8_t *attribute, size_t attribute_length, size_t row, size_t column);
 
 uint8_t plain_store_8088(rainbow_machine machine, uint8_t *shared, size_t shared_length, uint8_t *screen,
                          size_t screen_length, uint8_t *attribute, size_t attribute_length, uint32_t address,

@@ -5,13 +5,14 @@
  *
  * A call: the function's number, the machine, two numbers, how many buffers, and for each whether there is one, its
  * length and its bytes. An answer: the refusal, two numbers, the machine, what a drawing says of a wild link, which is
- * two bytes, and the bytes of each buffer. Numbers have eight bytes, the lowest first. */
+ * two bytes, what is said of a cell that is explained, eight bytes, and the bytes of each buffer. Numbers have eight
+ * bytes, places of screen memory two, the lowest first. */
 #include "rainbow.h"
 
 long read(int file, void *bytes, size_t length);
 long write(int file, const void *bytes, size_t length);
 
-enum { GUARD = 64, MOST = 2 * RAINBOW_SHARED_BYTES, BUFFERS = 4, FUNCTIONS = 23 };
+enum { GUARD = 64, MOST = 2 * RAINBOW_SHARED_BYTES, BUFFERS = 4, FUNCTIONS = 24 };
 
 /* Each buffer has bytes before it and after it that no call may change. */
 static uint8_t memory[BUFFERS][GUARD + MOST + GUARD];
@@ -96,12 +97,22 @@ typedef struct {
     uint64_t value, length;
     rainbow_machine machine;
     rainbow_drawn drawn;
+    rainbow_explained explained;
 } answer;
 
 static answer read_byte(rainbow_byte_read read)
 {
-    answer a = {read.refusal, read.byte, 0, {0}, {0}};
+    answer a = {read.refusal, read.byte, 0, {0}, {0}, {0}};
     return a;
+}
+
+/* A bool goes out as the byte that it is. */
+static bool give_explained(rainbow_explained why)
+{
+    uint8_t linked = *(const uint8_t *)&why.linked;
+    uint8_t bytes[8] = {why.answer, (uint8_t)why.place, (uint8_t)(why.place >> 8), why.kind,
+                        why.tore,   linked,             (uint8_t)why.link,         (uint8_t)(why.link >> 8)};
+    return give(bytes, sizeof bytes);
 }
 
 /* The functions by their numbers. */
@@ -109,7 +120,7 @@ static answer call(uint8_t function, rainbow_machine machine, uint64_t m, uint64
 {
     uint8_t **b = lent;
     size_t *l = length;
-    answer a = {0, 0, 0, {0}, {0}};
+    answer a = {0, 0, 0, {0}, {0}, {0}};
     switch (function) {
     case 0: a.value = rainbow_version(); break;
     case 1: a.machine = rainbow_power_up(); break;
@@ -156,7 +167,10 @@ static answer call(uint8_t function, rainbow_machine machine, uint64_t m, uint64
         break;
     }
     case 21: a.refusal = rainbow_scan_line(machine, b[0], l[0], b[1], l[1], m, n, b[2], l[2]); break;
-    default: a.refusal = rainbow_list_lines(machine, b[0], l[0], b[1], l[1]);
+    case 22: a.refusal = rainbow_list_lines(machine, b[0], l[0], b[1], l[1]); break;
+    default:
+        a.explained = rainbow_explain(machine, b[0], l[0], b[1], l[1], m, n);
+        a.refusal = a.explained.refusal;
     }
     return a;
 }
@@ -176,7 +190,8 @@ static bool serve(void)
             return false;
     answer a = call(function, machine, m, n);
     if (!give(&a.refusal, 1) || !give_number(a.value) || !give_number(a.length) ||
-        !give(&a.machine, sizeof a.machine) || !give(&a.drawn.wild, 1) || !give(&a.drawn.wild_row, 1))
+        !give(&a.machine, sizeof a.machine) || !give(&a.drawn.wild, 1) || !give(&a.drawn.wild_row, 1) ||
+        !give_explained(a.explained))
         return false;
     for (int buffer = 0; buffer < buffers; buffer++)
         if (!is_guarded(buffer) || !give(memory[buffer] + GUARD, length[buffer]))

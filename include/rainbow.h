@@ -30,7 +30,7 @@ extern "C" {
 
 /* Raised by every new call and every change of a number, a struct or a rule of this file. rainbow_version() is the
  * library's own. */
-#define RAINBOW_VERSION 6
+#define RAINBOW_VERSION 7
 
 /* The length of each buffer, in bytes. */
 #define RAINBOW_SHARED_BYTES 65536
@@ -50,7 +50,8 @@ extern "C" {
 #define RAINBOW_REFUSED_ADDRESS 2  /* the 8088's address lies in none of its three ranges */
 #define RAINBOW_REFUSED_PORT 3     /* the port is none of 04, 0A, 0C, 10C */
 #define RAINBOW_REFUSED_CODE 4     /* the code is not in that port's list */
-#define RAINBOW_REFUSED_PLACE 5    /* a row over 24, a scan outside 1 to 10, a shadow place over 255 */
+#define RAINBOW_REFUSED_PLACE 5    /* a row over 24, a column over 131, a scan outside 1 to 10, a shadow place over
+                                    * 255 */
 #define RAINBOW_REFUSED_EDGES 6    /* bits 6 and 7 of port 0A both rise in one write */
 #define RAINBOW_REFUSED_Z80_HELD 7 /* the Z80 is held: bit 0 of port 0A is 0 */
 #define RAINBOW_REFUSED_IN_RESET 8 /* the 8088 is in reset, by the watchdog */
@@ -65,6 +66,15 @@ extern "C" {
 #define RAINBOW_PAIRS_AT 4
 #define RAINBOW_TORN 255
 #define RAINBOW_DARK 254
+
+/* The columns that may be asked of a row, 0 to 131, whatever the column setting is. */
+#define RAINBOW_COLUMNS 132
+
+/* Why a cell shows what it shows: the answers of rainbow_explain. */
+#define RAINBOW_WHY_CELL 1 /* a cell of its row stands there */
+#define RAINBOW_WHY_FILL 2 /* the row's FF comes before it, or stands there: it is filled with 20, 0E */
+#define RAINBOW_WHY_PAST 3 /* the row's capacity ends before it */
+#define RAINBOW_WHY_DARK 4 /* an earlier row is torn */
 
 /* The scans of a row. */
 #define RAINBOW_FIRST_SCAN 1
@@ -115,6 +125,17 @@ typedef struct rainbow_stored {
     uint32_t marks;
 } rainbow_stored;
 
+/* The answer of rainbow_explain. What the answer does not have is 0. */
+typedef struct rainbow_explained {
+    uint8_t refusal;
+    uint8_t answer; /* RAINBOW_WHY_CELL, _FILL, _PAST or _DARK; 0 if refused */
+    uint16_t place; /* a cell: the place that holds it; fill: the place of the FF that ended the row */
+    uint8_t kind;   /* a cell: the kind of its row, 0 to 7 */
+    uint8_t tore;   /* dark: the row that tore */
+    bool linked;    /* a link led to the row: false for row 0, where the chain begins, for a dark row and a refusal */
+    uint16_t link;  /* the place of that link's low byte */
+} rainbow_explained;
+
 /* The part of a glyph table that is a code's: where it starts in the table, and how long it is. */
 typedef struct rainbow_part_place {
     uint8_t refusal;
@@ -135,6 +156,7 @@ RAINBOW_SIZE(rainbow_byte_read, 2);
 RAINBOW_SIZE(rainbow_written, 12);
 RAINBOW_SIZE(rainbow_drawn, 6);
 RAINBOW_SIZE(rainbow_stored, 8);
+RAINBOW_SIZE(rainbow_explained, 10);
 RAINBOW_SIZE(rainbow_part_place, 24);
 
 /* RAINBOW_VERSION of the header that the library was made for. */
@@ -232,6 +254,24 @@ rainbow_stored rainbow_store_with_picture(rainbow_machine machine, uint8_t *shar
 
 /* Whether bit `row` of the marks is set. No bit from 32 up is. */
 bool rainbow_is_marked(uint32_t marks, size_t row);
+
+/* Says why a row, 0 to 24, shows what it shows in a column, 0 to 131: the rows are those of the walk that rainbow_draw
+ * makes, and no picture is lent. All places are places of screen memory, 0 to 4095. The answer is the first of these
+ * that holds:
+ *   - dark: an earlier row is torn. It is named, and is the only torn row.
+ *   - past: the column is not under the row's capacity, which is the column setting, or half of it in the three wide
+ *     kinds.
+ *   - fill: the row's FF stands in an earlier column or in this one. Its place is named.
+ *   - a cell: the place that holds it and the kind of its row are named. A torn row has a cell in each column that is
+ *     under its capacity.
+ * In fill, past and dark the picture shows 20, 0E. All but dark also name the link that led to the row, by the place of
+ * its low byte; the attribute byte beside that byte gave the row's kind. Row 0 has none.
+ * Where no earlier row reads the place of a cell, a store there of another byte, which is not FF, shows in that cell
+ * and changes no earlier row. A later row that reads the place may change too: a cell of it shows the byte, and if the
+ * place is in its link, the rows after it are others.
+ * It is no access of the 8088, so reset does not matter. Refused: 1, 5. */
+rainbow_explained rainbow_explain(rainbow_machine machine, const uint8_t *screen, size_t screen_length,
+                                  const uint8_t *attribute, size_t attribute_length, size_t row, size_t column);
 
 /* Where the sixteen scan bytes of a code stand in the caller's glyph table: code times 16. Refused: 1. */
 rainbow_part_place rainbow_glyph_part(const uint8_t *table, size_t table_length, uint8_t code);

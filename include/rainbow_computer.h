@@ -57,7 +57,8 @@ static inline const char *rainbow_refusal_text(uint8_t refusal)
     case RAINBOW_REFUSED_ADDRESS: return "the 8088's address lies in none of its three ranges";
     case RAINBOW_REFUSED_PORT: return "the port is none of 04, 0A, 0C, 10C";
     case RAINBOW_REFUSED_CODE: return "the code is not in that port's list";
-    case RAINBOW_REFUSED_PLACE: return "a row over 24, a scan outside 1 to 10, a shadow place over 255";
+    case RAINBOW_REFUSED_PLACE:
+        return "a row over 24, a column over 131, a scan outside 1 to 10, a shadow place over 255";
     case RAINBOW_REFUSED_EDGES: return "bits 6 and 7 of port 0A both rise in one write";
     case RAINBOW_REFUSED_Z80_HELD: return "the Z80 is held";
     case RAINBOW_REFUSED_IN_RESET: return "the 8088 is in reset";
@@ -169,6 +170,12 @@ static inline uint8_t rainbow_computer_scan_line(rainbow_computer *c, size_t row
 static inline uint8_t rainbow_computer_list_lines(rainbow_computer *c)
 {
     return rainbow_list_lines(c->machine, c->picture, sizeof c->picture, c->list, sizeof c->list);
+}
+
+/* Says why a row, 0 to 24, shows what it shows in a column, 0 to 131, by the memories as they are. Refused: 5. */
+static inline rainbow_explained rainbow_computer_explain(const rainbow_computer *c, size_t row, size_t column)
+{
+    return rainbow_explain(c->machine, c->screen, sizeof c->screen, c->attribute, sizeof c->attribute, row, column);
 }
 
 /* The sixteen scan bytes of a code, in c->glyphs. */

@@ -17,7 +17,7 @@ from ctypes import c_bool, c_size_t, c_uint8, c_uint16, c_uint32
 from typing import NamedTuple, Optional
 
 # The numbers of include/rainbow.h, by the same names: first its version.
-VERSION = 6
+VERSION = 7
 SHARED_BYTES, PRIVATE_BYTES = 65536, 2048
 SCREEN_BYTES, ATTRIBUTE_BYTES, GLYPH_BYTES = 4096, 4096, 4096
 NVM_BYTES, SHADOW_BYTES = 256, 256
@@ -28,6 +28,8 @@ REFUSED_Z80_HELD, REFUSED_IN_RESET, REFUSED_LATCH = 7, 8, 9
 ROWS, RECORD_BYTES, KIND_AT, COUNT_AT, PAIRS_AT = 25, 268, 2, 3, 4
 PAIRS = 132
 TORN, DARK = 255, 254
+COLUMNS = 132
+WHY_CELL, WHY_FILL, WHY_PAST, WHY_DARK = 1, 2, 3, 4
 FIRST_SCAN, LAST_SCAN = 1, 10
 LINES, ROWS_AT_REST = 240, 24
 
@@ -38,7 +40,7 @@ REFUSAL_TEXTS = (
     "the 8088's address lies in none of its three ranges",
     "the port is none of 04, 0A, 0C, 10C",
     "the code is not in that port's list",
-    "a row over 24, a scan outside 1 to 10, a shadow place over 255",
+    "a row over 24, a column over 131, a scan outside 1 to 10, a shadow place over 255",
     "bits 6 and 7 of port 0A both rise in one write",
     "the Z80 is held",
     "the 8088 is in reset",
@@ -88,6 +90,36 @@ class Row(NamedTuple):
         return self.count == DARK
 
 
+class Why(NamedTuple):
+    """Why a cell shows what it shows. What the answer does not have is None."""
+
+    answer: int  # WHY_CELL, WHY_FILL, WHY_PAST or WHY_DARK
+    place: Optional[int]  # a cell: the place that holds it; fill: that of the FF that ended the row
+    kind: Optional[int]  # a cell: the kind of its row, 0 to 7
+    tore: Optional[int]  # dark: the row that tore
+    link: Optional[int]  # the place of the low link byte that led to the row, which row 0 has not
+
+    @property
+    def cell(self):
+        """Whether a cell of the row stands there."""
+        return self.answer == WHY_CELL
+
+    @property
+    def fill(self):
+        """Whether the row's FF comes before it, or stands there."""
+        return self.answer == WHY_FILL
+
+    @property
+    def past(self):
+        """Whether the row's capacity ends before it."""
+        return self.answer == WHY_PAST
+
+    @property
+    def dark(self):
+        """Whether an earlier row is torn."""
+        return self.answer == WHY_DARK
+
+
 class Machine(ctypes.Structure):
     """The machine's own state. `count` is the watchdog's count of ticks, 0 to 127; `reset` says
     whether the 8088 is in reset."""
@@ -121,6 +153,12 @@ class Stored(ctypes.Structure):
     _fields_ = [("refusal", c_uint8), ("marks", c_uint32)]
 
 
+class Explained(ctypes.Structure):
+    """The answer of what explains a cell."""
+    _fields_ = [("refusal", c_uint8), ("answer", c_uint8), ("place", c_uint16), ("kind", c_uint8),
+                ("tore", c_uint8), ("linked", c_bool), ("link", c_uint16)]
+
+
 class PartPlace(ctypes.Structure):
     """Where a code's part of a glyph table starts, and how long it is."""
     _fields_ = [("refusal", c_uint8), ("at", c_size_t), ("length", c_size_t)]
@@ -148,6 +186,7 @@ FUNCTIONS = {
     "rainbow_draw": (Drawn, [Machine] + _LENT * 3),
     "rainbow_store_with_picture": (Stored, [Machine] + _LENT * 4 + [c_uint32, c_uint8]),
     "rainbow_is_marked": (c_bool, [c_uint32, c_size_t]),
+    "rainbow_explain": (Explained, [Machine] + _LENT * 2 + [c_size_t] * 2),
     "rainbow_glyph_part": (PartPlace, _LENT + [c_uint8]),
     "rainbow_scan_line": (c_uint8, [Machine] + _LENT * 2 + [c_size_t] * 2 + _LENT),
     "rainbow_dots_of_line": (c_size_t, [Machine]),
@@ -300,6 +339,18 @@ class Computer(ctypes.Structure):
         listed = bytes(self.list)
         return list(zip(listed[0::2], listed[1::2]))
 
+    def why(self, row, column):
+        """Why a row, 0 to 24, shows what it shows in a column, 0 to 131, by the memories as they
+        are. The answer is a Why. Refused: 5."""
+        memories = self.screen, self.attribute
+        said = _call("rainbow_explain", self.machine, *memories, row, column)
+        cell, dark = said.answer == WHY_CELL, said.answer == WHY_DARK
+        return Why(said.answer, said.place if cell or said.answer == WHY_FILL else None,
+                   said.kind if cell else None, said.tore if dark else None,
+                   said.link if said.linked else None)
+
+    explain = why  # its name in rainbow_computer.h
+
     def glyph(self, code):
         """The sixteen scan bytes of a code: a view of `glyphs`, which can be written to."""
         part = _call("rainbow_glyph_part", self.glyphs, code)
@@ -360,7 +411,8 @@ class Computer(ctypes.Structure):
 SIZES = {"size_t": (c_size_t, 8), "bool": (c_bool, 1), "rainbow_machine": (Machine, 11),
          "rainbow_byte_read": (ByteRead, 2), "rainbow_written": (Written, 12),
          "rainbow_drawn": (Drawn, 6), "rainbow_stored": (Stored, 8),
-         "rainbow_part_place": (PartPlace, 24), "rainbow_computer": (Computer, 88763)}
+         "rainbow_explained": (Explained, 10), "rainbow_part_place": (PartPlace, 24),
+         "rainbow_computer": (Computer, 88763)}
 
 
 def check_sizes(sizes):

@@ -2,7 +2,7 @@
 
 The cases P1 to P13 are those of document 01, with the row that ticket 5 of document 02 adds. Wild
 links are those of ticket 1, a Z80 that is held is that of ticket 2, the watchdog that of ticket 3,
-and the whole screen that of ticket 5.
+the whole screen that of ticket 5, and why a cell shows what it shows is ticket 6.
 """
 import copy
 import ctypes
@@ -19,7 +19,7 @@ import unittest
 from unittest import mock
 
 import rainbow
-from rainbow import Computer, Drawing, Refused, Row
+from rainbow import Computer, Drawing, Refused, Row, Why
 
 HERE = os.path.dirname(os.path.abspath(__file__))
 ROOT = os.path.dirname(HERE)
@@ -95,7 +95,8 @@ C_TYPES = {
     "uint8_t *": ctypes.POINTER(ctypes.c_uint8), "rainbow_machine": rainbow.Machine,
     "rainbow_byte_read": rainbow.ByteRead, "rainbow_written": rainbow.Written,
     "rainbow_drawn": rainbow.Drawn, "rainbow_stored": rainbow.Stored,
-    "rainbow_part_place": rainbow.PartPlace, "rainbow_computer": Computer,
+    "rainbow_explained": rainbow.Explained, "rainbow_part_place": rainbow.PartPlace,
+    "rainbow_computer": Computer,
 }
 
 
@@ -724,6 +725,148 @@ class WholeScreen(Case):
         self.assertEqual(self.computer.list_lines(), wanted)
 
 
+def cell(place, kind, link=None):
+    """The answer that a cell stands there."""
+    return Why(rainbow.WHY_CELL, place, kind, None, link)
+
+
+def fill(place, link=None):
+    """The answer that the row has its FF at a place."""
+    return Why(rainbow.WHY_FILL, place, None, None, link)
+
+
+def past(link=None):
+    """The answer that the row has no such column."""
+    return Why(rainbow.WHY_PAST, None, None, None, link)
+
+
+def dark(tore):
+    """The answer that a row tore."""
+    return Why(rainbow.WHY_DARK, None, None, tore, None)
+
+
+class WhyCells(Case):
+    """Why a cell shows what it shows."""
+
+    def why(self, row, *columns):
+        """The answers for some columns of a row."""
+        return [self.computer.why(row, column) for column in columns]
+
+    def test_row_0(self):
+        self.computer.load(b"HERD\xff\0\1".ljust(4096, b"A"), b"\3" * 4096)
+        self.assertEqual(self.why(0, 0, 3, 4, 79, 80, 131),
+                         [cell(0, 3), cell(3, 3), fill(4), fill(4), past(), past()])
+        self.computer.write_port(0x04, 0x10)
+        self.assertEqual(self.why(0, 3, 4, 80, 131), [cell(3, 3), fill(4), fill(4), fill(4)])
+
+    def test_link_and_kind(self):
+        for kind in range(8):
+            capacity = 80 if kind % 4 == 3 else 40
+            self.chain(kind, capacity)  # FF at the very capacity: nothing is fill
+            self.assertEqual(self.why(1, 0, capacity - 1, capacity),
+                             [cell(256, kind, 1), cell(255 + capacity, kind, 1), past(1)])
+            self.chain(kind, capacity - 1)
+            self.assertEqual(self.why(1, capacity - 1, capacity),
+                             [fill(255 + capacity, 1), past(1)])
+
+    def test_torn_and_dark(self):
+        self.chain(2, 41)
+        self.assertEqual(self.why(1, 39, 40, 131), [cell(256 + 39, 2, 1), past(1), past(1)])
+        for row in (2, 3, LAST_ROW):
+            self.assertEqual(self.why(row, 0, 40, 131), [dark(1)] * 3)
+        self.computer.load(bytes(4096), bytes(4096))
+        self.assertEqual(self.why(0, 79, 80), [cell(79, 3), past()])
+        self.assertEqual(self.why(1, 0) + self.why(LAST_ROW, 131), [dark(0)] * 2)
+
+    def test_past_the_last_place(self):
+        screen = bytearray(b"A" * 4096)
+        screen[2:5] = 0xFF, 0xFE, 0x0F
+        self.computer.load(screen, b"\7" * 4096)
+        places = 4094, 4095, 0, 1
+        self.assertEqual(self.why(1, 0, 1, 2, 3), [cell(place, 7, 3) for place in places])
+        self.assertEqual(self.why(1, 4, 79, 80), [fill(2, 3), fill(2, 3), past(3)])
+        self.computer.load(b"\xff" * 4096, bytes(4096))
+        self.assertEqual(self.why(2, 0, 39, 40), [fill(4095, 0), fill(4095, 0), past(0)])
+
+    def test_names(self):
+        self.chain(2, 5)
+        for column, name in ((0, "cell"), (5, "fill"), (40, "past")):
+            self.named(self.computer.why(1, column), name)
+        self.computer.load(bytes(4096), bytes(4096))
+        self.named(self.computer.why(1, 0), "dark")
+
+    def named(self, why, name):
+        """The answer has this name and no other."""
+        names = [other for other in ("cell", "fill", "past", "dark") if getattr(why, other)]
+        self.assertEqual(names, [name])
+
+    def test_refused(self):
+        for row, column in ((25, 0), (0, 132), (2 ** 64 - 1, 0), (0, 2 ** 64 - 1), (25, 132)):
+            self.refused(5, self.computer.why, row, column)
+        with self.assertRaises(Refused) as caught:
+            self.computer.why(0, 132)
+        why = "a row over 24, a column over 131, a scan outside 1 to 10, a shadow place over 255"
+        self.assertEqual(str(caught.exception), "5, " + why)
+
+    def test_changes_nothing(self):
+        self.chain(2, 41)
+        self.computer.picture[:] = bytes(6700)
+        for reset in (False, True):
+            self.computer.machine.reset = reset
+            before = bytes(self.computer)
+            answers = self.why(1, 0, 40) + self.why(2, 0)
+            self.assertEqual(answers, [cell(256, 2, 1), past(1), dark(1)])
+            self.assertEqual(bytes(self.computer), before)
+        self.assertEqual(self.computer.explain(1, 0), self.computer.why(1, 0))
+
+    def test_what_the_picture_shows(self):
+        """On screens of any bytes: a cell shows the byte that is named, and all else 20, 0E."""
+        chance, computer, answers = random.Random(6), self.computer, {}
+        for code in (0x00, 0x10) * 4:
+            computer.write_port(0x04, code)
+            every = chance.randrange(5, 60)
+            screen = [0xFF if chance.randrange(every) == 0 else chance.randrange(255)
+                      for _ in range(4096)]
+            attribute = chance.choices(range(256), k=4096)
+            computer.load(bytes(screen), bytes(attribute))
+            for row in range(rainbow.ROWS):
+                pairs = bytes(computer.picture)[268 * row + rainbow.PAIRS_AT:268 * (row + 1)]
+                for column in range(rainbow.COLUMNS):
+                    why = computer.why(row, column)
+                    answers[why.answer] = answers.get(why.answer, 0) + 1
+                    shown = ((screen[why.place], attribute[why.place] % 16) if why.cell
+                             else (0x20, PLAIN))
+                    self.assertEqual(tuple(pairs[2 * column:2 * column + 2]), shown)
+                    self.assertTrue(self.holds(computer.row(row), why))
+        self.assertEqual(set(answers), {1, 2, 3, 4})
+
+    def holds(self, row, why):
+        """What the answer names stands where it is said to."""
+        computer = self.computer
+        if why.dark or row.dark:
+            return why.dark and row.dark and computer.row(why.tore).torn
+        if why.link is not None and computer.screen[why.link] != row.start % 256:
+            return False
+        if why.fill:
+            end = (row.start + row.count) % 4096
+            return computer.screen[why.place] == 0xFF and why.place == end
+        return not why.cell or why.kind == row.kind
+
+    def test_promise(self):
+        """A byte stored into the place of a cell that no earlier row reads shows in that cell."""
+        computer = self.computer
+        computer.load(b"H\xff\0\1".ljust(256) + b"BERTA\xff\2\1".ljust(3840), b"\3" * 4096)
+        earlier = bytes(computer.picture)[:268]
+        # Row 2 begins in column 2 of row 1, and leads to itself.
+        for column, rows in ((0, [1]), (3, list(range(1, 25)))):
+            place = computer.why(1, column).place
+            self.assertEqual(place, 256 + column)
+            marks = computer.store(SCREEN + place, 0x5A)
+            self.assertEqual(rainbow.marked_rows(marks), rows)
+            self.assertEqual(computer.text(1)[column], "Z")
+            self.assertEqual(bytes(computer.picture)[:268], earlier)
+
+
 class Calls(Case):
     """Each method beside the rule of its call."""
 
@@ -894,6 +1037,7 @@ class Numbers(Case):
                 (computer.write_shadow, [0, 0], [2 ** 64 - 1, 0xFF]),
                 (computer.write_port, [0x0C, 8], [0xFFFF, 0xFF]),
                 (computer.scan_line, [0, 1], [2 ** 64 - 1, 2 ** 64 - 1]),
+                (computer.why, [0, 0], [2 ** 64 - 1, 2 ** 64 - 1]),
                 (computer.glyph, [0], [0xFF]),
                 (computer.row, [0], [2 ** 64 - 1]),
                 (computer.text, [0], [2 ** 64 - 1]),
@@ -928,7 +1072,7 @@ class Headers(unittest.TestCase):
 
     def test_numbers(self):
         wanted = defines(self.calls)
-        self.assertGreaterEqual(len(wanted), 32)
+        self.assertGreaterEqual(len(wanted), 37)
         self.assertEqual({name: getattr(rainbow, name, None) for name in wanted}, wanted)
         pairs = (rainbow.RECORD_BYTES - rainbow.PAIRS_AT) // 2
         self.assertEqual(rainbow.PAIRS, pairs)
@@ -950,7 +1094,7 @@ class Headers(unittest.TestCase):
         wanted = {**structs(self.calls), **structs(self.whole)}
         self.assertEqual({name for _, name, _ in wanted.pop("rainbow_row")} - {"refusal"},
                          set(Row._fields))
-        self.assertEqual(len(wanted), 7)
+        self.assertEqual(len(wanted), 8)
         for name, fields in wanted.items():
             fields = [(field, C_TYPES[kind] * getattr(rainbow, length) if length else C_TYPES[kind])
                       for kind, field, length in fields]
@@ -958,7 +1102,7 @@ class Headers(unittest.TestCase):
 
     def test_functions(self):
         wanted = declarations(self.calls)
-        self.assertEqual(len(wanted), 23)
+        self.assertEqual(len(wanted), 24)
         self.assertEqual(list(rainbow.FUNCTIONS), list(wanted))
         for name, (answer, given) in wanted.items():
             function = getattr(rainbow.library, name)
@@ -968,13 +1112,13 @@ class Headers(unittest.TestCase):
     def test_methods(self):
         """Each function of rainbow_computer.h is a method."""
         names = re.findall(r"^static inline .*\brainbow_computer_(\w+)\(", self.whole, flags=re.M)
-        self.assertEqual(len(names), 16)
+        self.assertEqual(len(names), 17)
         for name in names:
             self.assertTrue(callable(getattr(Computer, name)), name)
 
     def test_refusal_texts(self):
         numbers = defines(self.calls)
-        found = re.findall(r'case RAINBOW_(\w+): return "(.*)";', self.whole)
+        found = re.findall(r'case RAINBOW_(\w+):\s+return "(.*)";', self.whole)
         wanted = {numbers[name]: text for name, text in found}
         self.assertEqual(dict(enumerate(rainbow.REFUSAL_TEXTS)), wanted)
         self.assertEqual(list(wanted), list(range(10)))
@@ -984,7 +1128,7 @@ class Lent(Case):
     """The functions of the library with buffers that they have to refuse."""
 
     numbers = {"address": SCREEN, "byte": 1, "value": 1, "place": 0, "port": 0x0C, "code": 8,
-               "row": 0, "scan": 1}
+               "row": 0, "scan": 1, "column": 0}
     of_the_8088 = {"rainbow_write_port", "rainbow_read_8088", "rainbow_store_8088",
                    "rainbow_read_shadow", "rainbow_write_shadow", "rainbow_store_with_picture"}
 
@@ -1032,6 +1176,8 @@ class Lent(Case):
             self.assertEqual(bytes(self.computer), before, name)
             if name == "rainbow_list_lines":
                 self.latch_refused(name, call, arguments, lengths)
+            if name == "rainbow_explain":
+                self.place_refused(name, call, arguments, lengths)
             if name.endswith("_z80"):
                 self.held_refused(name, call, arguments, lengths)
             if name in self.of_the_8088:
@@ -1039,7 +1185,7 @@ class Lent(Case):
             else:
                 self.assertEqual(self.in_reset(call, arguments), 0, name)
             self.assertEqual(self.refusal(call(*arguments)), 0, name)
-        self.assertEqual(functions, 12)
+        self.assertEqual(functions, 13)
 
     def latch_refused(self, name, call, arguments, lengths):
         """The latch is over 9: 9, but 1 where a length is wrong too."""
@@ -1047,6 +1193,16 @@ class Lent(Case):
         self.assertEqual(self.refusal(call(*latched)), 9, name)
         for at in lengths:
             self.one_refused(name, call, latched, at)
+        self.assertEqual(bytes(self.computer), before, name)
+
+    def place_refused(self, name, call, arguments, lengths):
+        """There is no such row or column: 5, but 1 where a length is wrong too."""
+        before = bytes(self.computer)
+        for row, column in ((rainbow.ROWS, 0), (0, rainbow.COLUMNS), (2 ** 64 - 1, 2 ** 64 - 1)):
+            outside = [*arguments[:-2], row, column]
+            self.assertEqual(self.refusal(call(*outside)), 5, name)
+            for at in lengths:
+                self.one_refused(name, call, outside, at)
         self.assertEqual(bytes(self.computer), before, name)
 
     def held_refused(self, name, call, arguments, lengths):

@@ -21,7 +21,7 @@ static uint8_t *buffers[WAYS][BUFFERS];
 static uint8_t *fence; /* a page that may not be touched */
 static uint8_t *closed[BUFFERS]; /* buffers of which no byte may be touched */
 static size_t page;
-static unsigned long calls, named, z80_ran, z80_held, ran_8088, reset_8088, lists;
+static unsigned long calls, named, z80_ran, z80_held, ran_8088, reset_8088, lists, cells, not_cells;
 static uint64_t seed = 0x9E3779B97F4A7C15u;
 
 static uint32_t below(uint32_t n)
@@ -159,13 +159,45 @@ static void list(rainbow_machine machine, uint8_t **b)
     lists++;
 }
 
+/* What is said of a cell is what the picture, which is true, shows there: of a cell the byte at the place that is
+ * named, else 20, 0E. The link's low byte stands where it is said to, and is the low byte of the row's start. */
+static void explain(rainbow_machine machine, uint8_t **b)
+{
+    size_t row = below(RAINBOW_ROWS + 2), column = below(RAINBOW_COLUMNS + 10);
+    rainbow_explained why =
+        rainbow_explain(machine, b[SCREEN], listed[SCREEN], b[ATTRIBUTE], listed[ATTRIBUTE], row, column);
+    bool there = row < RAINBOW_ROWS && column < RAINBOW_COLUMNS;
+    if (why.refusal != (there ? RAINBOW_ACCEPTED : RAINBOW_REFUSED_PLACE))
+        fail("a cell is not refused as it should be");
+    if (!there)
+        return;
+    const uint8_t *record = b[PICTURE] + row * RAINBOW_RECORD_BYTES, *pair = record + RAINBOW_PAIRS_AT + 2 * column;
+    bool is_cell = why.answer == RAINBOW_WHY_CELL, is_dark = why.answer == RAINBOW_WHY_DARK;
+    if (why.place >= listed[SCREEN] || why.link >= listed[SCREEN] || why.tore >= RAINBOW_ROWS || why.kind > 7)
+        fail("a place, a row or a kind is named that is none");
+    if (is_cell ? pair[0] != b[SCREEN][why.place] || pair[1] != b[ATTRIBUTE][why.place] % 16
+                : pair[0] != 0x20 || pair[1] != 0x0E)
+        fail("a cell shows another byte than the one that is named");
+    if (is_cell && why.kind != record[RAINBOW_KIND_AT])
+        fail("the kind of a cell's row is another one");
+    if (why.answer == RAINBOW_WHY_FILL && b[SCREEN][why.place] != 0xFF)
+        fail("no FF stands at the place that is named");
+    if (is_dark != (record[RAINBOW_COUNT_AT] == RAINBOW_DARK))
+        fail("a row is dark, or is not");
+    if (is_dark && b[PICTURE][why.tore * RAINBOW_RECORD_BYTES + RAINBOW_COUNT_AT] != RAINBOW_TORN)
+        fail("the row that is named is not torn");
+    if (why.linked != (row > 0 && !is_dark) || (why.linked && b[SCREEN][why.link] != record[1]))
+        fail("the link that is named does not lead to the row");
+    *(is_cell ? &cells : &not_cells) += 1;
+}
+
 /* One call that keeps the picture true. */
 static void call(rainbow_machine machine, uint8_t **b)
 {
     size_t place = below(300);
     uint16_t z80 = (uint16_t)(below(2) == 0 ? below(0x1000) : below(0x10000));
     uint8_t byte = below(5) == 0 ? 0xFF : any();
-    switch (below(9)) {
+    switch (below(10)) {
     case 0:
         refused_8088(machine, rainbow_read_8088(machine, b[SHARED], listed[SHARED], b[SCREEN], listed[SCREEN],
                                                 b[ATTRIBUTE], listed[ATTRIBUTE], address()).refusal);
@@ -185,6 +217,7 @@ static void call(rainbow_machine machine, uint8_t **b)
                           below(RAINBOW_ROWS + 2), below(RAINBOW_LAST_SCAN + 2), b[LINE], listed[LINE]);
         break;
     case 6: list(machine, b); break;
+    case 7: explain(machine, b); break;
     default:
         refused_8088(machine, rainbow_store_with_picture(machine, b[SHARED], listed[SHARED], b[SCREEN], listed[SCREEN],
                                                          b[ATTRIBUTE], listed[ATTRIBUTE], b[PICTURE], listed[PICTURE],
@@ -206,6 +239,8 @@ static void refused(rainbow_machine machine, uint8_t **b)
                rainbow_scan_line(machine, fence, length, fence, 0, 0, 1, fence, 3) == 1 &&
                rainbow_list_lines(machine, fence, length, b[LIST], listed[LIST]) == 1 &&
                rainbow_list_lines(machine, closed[PICTURE], listed[PICTURE], fence, listed[LIST] - 1) == 1 &&
+               rainbow_explain(machine, fence, 4097, b[ATTRIBUTE], listed[ATTRIBUTE], 0, 0).refusal == 1 &&
+               rainbow_explain(machine, closed[SCREEN], listed[SCREEN], fence, 7, 25, 132).refusal == 1 &&
                rainbow_glyph_part(fence, length, any()).refusal == 1 &&
                rainbow_read_8088(machine, fence, 7, fence, 0, fence, length, address()).refusal == 1 &&
                rainbow_store_8088(machine, b[SHARED], listed[SHARED], fence, 7, fence, 0, address(), any()) == 1 &&
@@ -262,6 +297,18 @@ static void latched(rainbow_machine machine)
         fail("a latch over 9 is not refused by 9");
 }
 
+/* Nor does a row over 24 or a column over 131. */
+static void off_the_screen(rainbow_machine machine)
+{
+    size_t row = RAINBOW_ROWS + below(99), column = RAINBOW_COLUMNS + below(99);
+    rainbow_explained below_it = rainbow_explain(machine, closed[SCREEN], listed[SCREEN], closed[ATTRIBUTE],
+                                                 listed[ATTRIBUTE], row, 0);
+    rainbow_explained beside_it = rainbow_explain(machine, closed[SCREEN], listed[SCREEN], closed[ATTRIBUTE],
+                                                  listed[ATTRIBUTE], 0, column);
+    if (below_it.refusal != RAINBOW_REFUSED_PLACE || beside_it.refusal != RAINBOW_REFUSED_PLACE)
+        fail("a cell off the screen is not refused by 5");
+}
+
 int main(void)
 {
     make_buffers();
@@ -278,9 +325,10 @@ int main(void)
             held(machine);
             stopped(machine);
             latched(machine);
+            off_the_screen(machine);
             if (draw(machine, b, FRESH) != 0 || memcmp(b[PICTURE], b[FRESH], listed[PICTURE]) != 0)
                 fail("the kept picture differs from a fresh one");
-            calls += 76;
+            calls += 80;
         }
     }
     for (int buffer = 0; buffer < BUFFERS; buffer++)
@@ -293,6 +341,8 @@ int main(void)
         fail("the 8088 was seldom in reset, or seldom not");
     if (lists == 0)
         fail("no whole screen was listed");
+    if (cells == 0 || not_cells == 0)
+        fail("no cell was explained, or nothing but cells");
     printf("%lu calls touched nothing outside of their buffers\n", calls);
     return 0;
 }

@@ -7,7 +7,7 @@
 enum { CALLS = 200000, LAST_ROW = RAINBOW_ROWS - 1 };
 
 static rainbow_computer c, twin; /* the twin is changed by the calls of rainbow.h alone */
-static uint32_t seed = 1, z80_ran, z80_held, ran_8088, reset_8088, listed, not_listed;
+static uint32_t seed = 1, z80_ran, z80_held, ran_8088, reset_8088, listed, not_listed, explained, refused;
 
 static uint32_t below(uint32_t n)
 {
@@ -99,6 +99,14 @@ static void read_and_draw(void)
     expect(rainbow_computer_list_lines(&c) == refusal, "the lines of the whole screen");
     expect(refusal == (rainbow_scroll_latch(c.machine) > 9 ? 9 : 0), "the refusal of a whole screen");
     *(refusal == 0 ? &listed : &not_listed) += 1;
+    size_t column = below(RAINBOW_COLUMNS + 10);
+    rainbow_explained why = rainbow_computer_explain(&c, row, column);
+    rainbow_explained said = rainbow_explain(twin.machine, twin.screen, sizeof twin.screen, twin.attribute,
+                                             sizeof twin.attribute, row, column);
+    expect(why.refusal == said.refusal && why.answer == said.answer && why.place == said.place &&
+               why.kind == said.kind && why.tore == said.tore && why.linked == said.linked && why.link == said.link,
+           "why a cell shows what it shows");
+    *(why.refusal == 0 ? &explained : &refused) += 1;
 }
 
 static void one_call(void)
@@ -176,6 +184,38 @@ static void rows(void)
     memcpy(d.screen + 0x150, "\xFF\x00\x42", 3);
     drawn = rainbow_computer_draw(&d);
     expect(drawn.wild && drawn.wild_row == 1 && rainbow_computer_row(&d, 2).start == 0x200, "a wild link in row 1");
+}
+
+static bool is(rainbow_explained why, uint8_t answer, uint16_t place, uint8_t kind, uint8_t tore)
+{
+    return why.refusal == 0 && why.answer == answer && why.place == place && why.kind == kind && why.tore == tore;
+}
+
+/* Eight cells in row 0; row 1, of kind 6, starts at 4094, goes on at 0 and leads to itself. */
+static void cells(void)
+{
+    static rainbow_computer d, before;
+    memset(d.screen, 'A', sizeof d.screen);
+    memcpy(d.screen + 8, "\xFF\xFE\x0F", 3);
+    d.attribute[9] = 6;
+    rainbow_computer_power_up(&d);
+    before = d;
+    rainbow_explained why = rainbow_computer_explain(&d, 0, 7);
+    expect(is(why, RAINBOW_WHY_CELL, 7, 3, 0) && !why.linked && why.link == 0, "a cell of row 0");
+    why = rainbow_computer_explain(&d, 0, 79);
+    expect(is(why, RAINBOW_WHY_FILL, 8, 0, 0) && !why.linked && why.link == 0, "fill in row 0");
+    why = rainbow_computer_explain(&d, 1, 2);
+    expect(is(why, RAINBOW_WHY_CELL, 0, 6, 0) && why.linked && why.link == 9, "a cell of row 1");
+    why = rainbow_computer_explain(&d, LAST_ROW, 40);
+    expect(is(why, RAINBOW_WHY_PAST, 0, 0, 0) && why.linked && why.link == 9, "past the last row");
+    why = rainbow_computer_explain(&d, LAST_ROW + 1, 0);
+    expect(why.refusal == 5 && why.answer == 0 && !why.linked, "a cell of a row after the last");
+    expect(rainbow_computer_explain(&d, 0, RAINBOW_COLUMNS).refusal == 5, "a column after the last");
+    expect(memcmp(&d, &before, sizeof d) == 0, "the memories, where cells are explained");
+    rainbow_computer_store(&d, 0xEE008, 'A'); /* row 0 has no FF now */
+    expect(is(rainbow_computer_explain(&d, 0, 79), RAINBOW_WHY_CELL, 79, 3, 0), "a cell of a torn row");
+    why = rainbow_computer_explain(&d, LAST_ROW, 131);
+    expect(is(why, RAINBOW_WHY_DARK, 0, 0, 0) && !why.linked && why.link == 0, "a dark row");
 }
 
 /* The line that stands at a place of the list. */
@@ -298,7 +338,9 @@ int main(void)
     expect(z80_ran > 1000 && z80_held > 1000, "the Z80 was seldom held, or seldom not");
     expect(ran_8088 > 1000 && reset_8088 > 1000, "the 8088 was seldom in reset, or seldom not");
     expect(listed > 1000 && not_listed > 1000, "a whole screen was seldom listed, or seldom not");
+    expect(explained > 1000 && refused > 1000, "a cell was seldom explained, or seldom not");
     rows();
+    cells();
     lists();
     z80();
     watchdog();

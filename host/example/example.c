@@ -1,6 +1,6 @@
-/* Lays two rows of text on the Rainbow's screen, draws them, changes a letter, prints a scan of the dots, scrolls the
- * rows below smoothly, leaves rubbish in a link, lets the Z80 run, and leaves the watchdog alone until it resets the
- * 8088. */
+/* Lays two rows of text on the Rainbow's screen, draws them, changes a letter, prints a scan of the dots, says why
+ * cells show what they show, scrolls the rows below smoothly, leaves rubbish in a link, lets the Z80 run, and leaves
+ * the watchdog alone until it resets the 8088. */
 #include "rainbow.h"
 #include <stdio.h>
 
@@ -80,6 +80,24 @@ static void print_row(size_t row)
     puts("|");
 }
 
+/* Where a cell comes from: the place that holds it, and the link that led to its row. */
+static void print_why(rainbow_machine machine, size_t row, size_t column)
+{
+    rainbow_explained why =
+        rainbow_explain(machine, screen, sizeof screen, attribute, sizeof attribute, row, column);
+    printf("row %d, column %d: ", (int)row, (int)column);
+    switch (why.answer) {
+    case RAINBOW_WHY_CELL: printf("a cell, held at %04X, of kind %d", why.place, why.kind); break;
+    case RAINBOW_WHY_FILL: printf("filled, since FF stands at %04X", why.place); break;
+    case RAINBOW_WHY_PAST: printf("past the row's capacity"); break;
+    case RAINBOW_WHY_DARK: printf("dark, since row %d is torn", why.tore); break;
+    default: printf("refusal %d", why.refusal);
+    }
+    if (why.linked)
+        printf(", by the link at %04X", why.link);
+    putchar('\n');
+}
+
 static void print_line(size_t number)
 {
     printf("line %d is scan %d of row %d\n", (int)number, list[2 * number + 1], list[2 * number]);
@@ -130,6 +148,12 @@ int main(void)
     for (size_t dot = 0; dot < 60; dot++)
         putchar(line[dot] != 0 ? '#' : '.');
     putchar('\n');
+
+    print_why(machine, 0, 3);
+    print_why(machine, 1, 4);
+    print_why(machine, 1, 11);
+    print_why(machine, 24, 80);
+    print_why(machine, 1, RAINBOW_COLUMNS);
 
     print_scrolled(machine);
 

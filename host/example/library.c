@@ -31,8 +31,8 @@ static const buffer right[BUFFERS] = {
     {picture, sizeof picture}, {line, sizeof line}, {list, sizeof list}};
 
 /* Whether a call with these buffers is refused by 1, if it is lent buffer `other`, and accepted if not; or refused by
- * 7, if it is the Z80's and the Z80 is held, by 8, if it is the 8088's and the 8088 is in reset, or by 9, if it is the
- * whole screen's and the latch is over 9. */
+ * 7, if it is the Z80's and the Z80 is held, by 8, if it is the 8088's and the 8088 is in reset, by 9, if it is the
+ * whole screen's and the latch is over 9, or by 5, if a cell of row 25 is asked for. */
 static void call_all(const buffer *b, int other, bool reset)
 {
     rainbow_machine m = rainbow_power_up();
@@ -62,6 +62,13 @@ static void call_all(const buffer *b, int other, bool reset)
     rainbow_drawn drawn = rainbow_draw(m, c->bytes, c->length, a->bytes, a->length, p->bytes, p->length);
     expect(drawn.refusal == (main_two || other == 7), "draw");
     expect(drawn.wild == (drawn.refusal == 0) && drawn.wild_row == 0, "the wild row of draw");
+    for (size_t row = 24; row <= 25; row++) {
+        rainbow_explained why = rainbow_explain(m, c->bytes, c->length, a->bytes, a->length, row, 5);
+        expect(why.refusal == (main_two ? 1 : row == 25 ? 5 : 0), "explain");
+        bool told = why.refusal == 0; /* every row starts at 0, has its FF at 5, and leads to the next one */
+        expect(why.answer == (told ? RAINBOW_WHY_FILL : 0) && why.place == (told ? 5 : 0) && why.linked == told &&
+                   why.link == (told ? 6 : 0) && why.kind == 0 && why.tore == 0, "the answer of explain");
+    }
     wanted = main_three || other == 7 ? 1 : otherwise;
     expect(rainbow_store_with_picture(m, s->bytes, s->length, c->bytes, c->length, a->bytes, a->length, p->bytes,
                                       p->length, 0xEE000, 1).refusal == wanted, "store_with_picture");

@@ -49,6 +49,11 @@ int main(void)
         machine.latch = latch;
         expect(rainbow_list_lines(machine, NULL, 0, NULL, 0) == 1, "list_lines");
     }
+    for (size_t row = 24; row <= 25; row++) { /* 1 is ahead of 5 */
+        rainbow_explained why = rainbow_explain(machine, NULL, 0, NULL, 0, row, 131);
+        expect(why.refusal == 1 && why.answer == 0 && why.place == 0 && why.kind == 0 && why.tore == 0 &&
+                   !why.linked && why.link == 0, "explain");
+    }
     if (wrong == 0)
         puts("NULL is refused by 1 everywhere");
     return wrong;

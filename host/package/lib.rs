@@ -41,7 +41,9 @@
 //! | [`glyphs::part`], [`glyphs::refusal`] | the sixteen bytes of a code in the glyph table |
 //! | [`scan_line::draw`], [`scan_line::dots_of_line`] | the dots of a scan line |
 //! | [`whole_screen::list_lines`] | the row and the scan of each of the 240 lines that show, as the scroll latch says |
+//! | [`explaining::explain`], [`explaining::tell`] | why a cell shows what it shows; the same as numbers |
 //! | [`listing::list_rows`] | the row lister's text, and what the drawing answers |
+//! | [`sentences::say`] | why a cell shows what it shows, in two sentences |
 //!
 //! While the 8088 is in reset its calls are refused by 8. Draw the picture afresh after each change of the column
 //! setting. [`chain`] and [`records`] have the constants of a picture; the other functions that are public are parts of

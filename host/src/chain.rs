@@ -56,7 +56,7 @@ impl<'a> Watched<'a> {
 }
 
 /// The places that a row reads of the two memories.
-#[derive(Default)]
+#[derive(Clone, Debug, Default)]
 pub struct Places {
     pub screen: Vec<usize>,
     pub attribute: Vec<usize>,

@@ -24,6 +24,7 @@ pub mod scripts;
 pub mod trial;
 pub mod tube_sample;
 pub mod watchdog;
+pub mod why;
 
 /// "Numbers of refusal", with those of document 02: they are 1 to this.
 pub const REFUSALS: usize = 9;

@@ -25,9 +25,13 @@ use Rattle.scan_line.specs.Line.{pairDots, rowDots, showsNothing, lineOf}
 use Rattle.scan_line.specs.Call.{lengthsLine, onTube}
 use Rattle.whole_screen.specs.Screen.{runStart, runEnd, atRest, screenLines}
 use Rattle.whole_screen.specs.Call.{lengthsList, kindsIn}
+use Rattle.explaining.specs.Explain.{ledTo, rowThatTore, reached as reachedRow, why}
+use Rattle.explaining.specs.Call.{onScreen}
 use Rattle.ascii.specs.Ascii.{ascii}
 use Rattle.ascii.specs.Numbers.{decimal, reached, digit, hex}
 use Rattle.listing.specs.Listing.{heading, counted, rowAndStart, line, lineOf as rowLine, linesTo, refusedText, textOf, drawing, listRows}
+use Rattle.sentences.specs.Words.{printable, characterWords, saidIf, attributeWords, widthWords, kindWords}
+use Rattle.sentences.specs.Sentences.{rowAndColumn, shown, heldIn, fillSentence, pastSentence, darkSentence, clause, clausesTo, chainSentence, textOf as saidText, say}
 use Rattle.cases.specs.Said.{Said, Case, differ}
 use Rattle.cases.specs.Screens.{alikeFrom, alike, drawnFrom, rowsOf, drawnAll, memory, byteOfRow, startOfRow, countOfRow, named, emptyRows}
 use Rattle.cases.specs.Memories.{zeros, refusedBy, running, storedByZ80, storedShort, readByZ80, storedBy8088}
@@ -37,7 +41,8 @@ use Rattle.cases.specs.Mends.{markedOf, markedFrom, marked, storedAt, me
 use Rattle.cases.specs.Dots.{showing, rowOfKind, litDots, everyByte, ofCharacter, numbered, digits80, digits132, bits, litByBits, underDigits, printed}
 use Rattle.cases.specs.Scroll.{standing, scrolling, linesAt, ofKinds, kindsAt, refusedAt}
 use Rattle.cases.specs.Lister.{listedOf}
-use Rattle.cases.specs.Table.{screens, wildLinks, stores, held, writes, ticks, resets, mends, dots, scrolls, prints, table}
+use Rattle.cases.specs.Why.{looped, overTheEnd, at132, whyAt, besideLink, saidOf}
+use Rattle.cases.specs.Table.{screens, wildLinks, stores, held, writes, ticks, resets, mends, dots, scrolls, whys, sentences, prints, table}
 use Rattle.cases.specs.Worked.{Worked}
 
 abbrev gives : List Case → List (List Said)
@@ -86,10 +91,18 @@ scrolled-out : gives scrolls ≡ says scrolls
 unfolding firstThat inOrder recordIn runStart runEnd atRest screenLines lengthsList kindsIn standing scrolling linesAt ofKinds kindsAt refusedAt scrolls
 scrolled-out = refl
 
+explained-out : gives whys ≡ says whys
+unfolding byteAt capacity firstFF terminator link rowFrom next rowAt firstThat ledTo rowThatTore why onScreen lengthsNvm refusalPort shadow nvm written writtenAll memory looped overTheEnd at132 whyAt besideLink whys
+explained-out = refl
+
+said-out : gives sentences ≡ says sentences
+unfolding byteAt capacity firstFF terminator link rowFrom next rowAt firstThat ledTo rowThatTore reachedRow why onScreen memory looped besideLink ascii decimal reached digit printable characterWords saidIf attributeWords widthWords kindWords rowAndColumn shown heldIn fillSentence pastSentence darkSentence clause clausesTo chainSentence saidText say saidOf sentences
+said-out = refl
+
 printed-out : gives prints ≡ says prints
 unfolding byteAt capacity firstFF terminator link rowFrom next rowAt reads readsTo cellPairs fillPairs recordOf inOrder lengthsPicture heading counted rowAndStart line rowLine linesTo refusedText textOf drawing listRows ascii decimal reached digit hex listedOf prints
 printed-out = refl
 
 pub worked : Worked
 unfolding table
-worked = simp map-append (rw (drawn, named-out, stored, held-out, written-out, ticked-out, reset-out, mended-out, shown-out, scrolled-out, printed-out))
+worked = simp map-append (rw (drawn, named-out, stored, held-out, written-out, ticked-out, reset-out, mended-out, shown-out, scrolled-out, explained-out, said-out, printed-out))

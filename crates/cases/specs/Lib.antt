@@ -7,5 +7,6 @@ pub mod Mends
 pub mod Dots
 pub mod Scroll
 pub mod Lister
+pub mod Why
 pub mod Table
 pub mod Worked

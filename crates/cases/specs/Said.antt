@@ -26,6 +26,12 @@ pub data Said : Type 0 where
   Addresses : List ℕ → Said
   GlyphScan : ℕ → Said
   Prints : (text : List ℕ) → Said
+  Cell : (place kind : ℕ) → Said
+  Fill : (place : ℕ) → Said
+  Past : Said
+  Dark : (tore : ℕ) → Said
+  Link : (place : ℕ) → Said
+  IsRow0 : Said
 
 -- a case: what the definitions give, and what the document says
 pub record Case : Type 0 where

@@ -1,4 +1,4 @@
--- Document 01, "Screens and ports worked out": the cases marked P. Document 02: those of tickets 1 to 5.
+-- Document 01, "Screens and ports worked out": the cases marked P. Document 02: those of tickets 1 to 6.
 use Prim.Native.Nat.{_-_}
 use mathlib.Core.List.{List, [], _∷_, _++_, map}
 use mathlib.Core.Bool.{true, false}
@@ -8,13 +8,14 @@ use Rattle.machine.specs.Fields.{withHeld, withCount, withReset}
 use Rattle.machine.specs.Power.{powerUp, verticalTick}
 use Rattle.glyphs.specs.Scans.{scanAddresses, scanAddress, glyphScan}
 use Rattle.ascii.specs.Ascii.{ascii}
-use Rattle.cases.specs.Said.{Case, Private, Shared, Screen, Attribute, Byte, Refused, Interlaced, Recalls, Watch, Row, Start, Count, Reads, Names, Line, Kind, Dots, Addresses, GlyphScan, Prints}
-use Rattle.cases.specs.Screens.{alike, drawnAll, startOfRow, countOfRow, named, emptyRows}
+use Rattle.cases.specs.Said.{Case, Private, Shared, Screen, Attribute, Byte, Refused, Interlaced, Recalls, Watch, Row, Start, Count, Reads, Names, Line, Kind, Dots, Addresses, GlyphScan, Prints, Cell, Fill, Past, Dark, Link, IsRow0}
+use Rattle.cases.specs.Screens.{alike, drawnAll, startOfRow, countOfRow, memory, named, emptyRows}
 use Rattle.cases.specs.Memories.{running, storedByZ80, storedShort, readByZ80, storedBy8088}
 use Rattle.cases.specs.Ports.{writtenAll, recalls}
 use Rattle.cases.specs.Watchdog.{ticked, watching, inReset, watch, readBy8088, readOfShadow, writtenToShadow, writtenToPort}
 use Rattle.cases.specs.Scroll.{standing, scrolling, linesAt, kindsAt, refusedAt}
 use Rattle.cases.specs.Lister.{listedOf}
+use Rattle.cases.specs.Why.{looped, overTheEnd, at132, whyAt, besideLink, saidOf}
 use Rattle.cases.specs.Mends.{marked, mendedRow}
 use Rattle.cases.specs.Dots.{litDots, everyByte, numbered, digits80, digits132, litByBits, underDigits, printed}
 
@@ -348,5 +349,101 @@ prints =
     }
     ∷ []
 
+-- 02, ticket 6. In the screen `AB, FF, link to 6; C, FF, link to 0` row 1 is of kind 2, and row 2 is row 0's cells again
+unfoldable pub whys : List Case
+whys =
+    -- "a cell, with the place that holds it and the kind of its row"; "or that it is row 0"
+    record { gives = whyAt powerUp (memory looped) (besideLink 3 2) 0 1; says = Cell 1 3 ∷ IsRow0 ∷ [] }
+    -- "the place of the low link byte that led to the row", beside which its kind stands
+    ∷ record { gives = whyAt powerUp (memory looped) (besideLink 3 2) 1 0; says = Cell 6 2 ∷ Link 3 ∷ [] }
+    -- a row that starts at place 0 and is not row 0 has its kind from the link, and names it
+    ∷ record { gives = whyAt powerUp (memory looped) (besideLink 8 7) 2 0; says = Cell 0 7 ∷ Link 8 ∷ [] }
+    -- "fill, with the place of the FF that ended the row": at the FF, and up to the capacity, 40 for the wide row
+    ∷ record { gives = whyAt powerUp (memory looped) (besideLink 3 2) 0 2; says = Fill 2 ∷ IsRow0 ∷ [] }
+    ∷ record { gives = whyAt powerUp (memory looped) (besideLink 3 2) 0 79; says = Fill 2 ∷ IsRow0 ∷ [] }
+    ∷ record { gives = whyAt powerUp (memory looped) (besideLink 3 2) 1 39; says = Fill 7 ∷ Link 3 ∷ [] }
+    -- "Past capacity comes ahead of fill"
+    ∷ record { gives = whyAt powerUp (memory looped) (besideLink 3 2) 0 80; says = Past ∷ IsRow0 ∷ [] }
+    ∷ record { gives = whyAt powerUp (memory looped) (besideLink 3 2) 1 40; says = Past ∷ Link 3 ∷ [] }
+    -- at 132 columns there is room for both
+    ∷ record { gives = whyAt at132 (memory looped) (besideLink 3 2) 0 131; says = Fill 2 ∷ IsRow0 ∷ [] }
+    ∷ record { gives = whyAt at132 (memory looped) (besideLink 3 2) 1 65; says = Fill 7 ∷ Link 3 ∷ [] }
+    ∷ record { gives = whyAt at132 (memory looped) (besideLink 3 2) 1 66; says = Past ∷ Link 3 ∷ [] }
+    -- P1: rows from 1 on start and end at place 4095, and the byte after it is at place 0
+    ∷ record {
+      gives = whyAt powerUp (replicate screenBytes 0xFF) (replicate attributeBytes 0x00) 1 0;
+      says = Fill 4095 ∷ Link 1 ∷ [];
+    }
+    ∷ record {
+      gives = whyAt powerUp (replicate screenBytes 0xFF) (replicate attributeBytes 0x00) 24 39;
+      says = Fill 4095 ∷ Link 0 ∷ [];
+    }
+    -- P2: row 0 is torn. It has cells up to its capacity, and is past from there on
+    ∷ record { gives = whyAt powerUp (memory []) (replicate attributeBytes 0) 0 79; says = Cell 79 3 ∷ IsRow0 ∷ [] }
+    ∷ record { gives = whyAt powerUp (memory []) (replicate attributeBytes 0) 0 80; says = Past ∷ IsRow0 ∷ [] }
+    -- "dark, with the row that tore", and "dark ahead of both"
+    ∷ record { gives = whyAt powerUp (memory []) (replicate attributeBytes 0) 1 0; says = Dark 0 ∷ [] }
+    ∷ record { gives = whyAt powerUp (memory []) (replicate attributeBytes 0) 24 131; says = Dark 0 ∷ [] }
+    -- P13, after the store: row 1 is torn at 256
+    ∷ record {
+      gives = whyAt powerUp (memory (0xFF ∷ 0x00 ∷ 0x01 ∷ [])) (replicate attributeBytes 3) 1 79;
+      says = Cell 335 3 ∷ Link 1 ∷ [];
+    }
+    ∷ record {
+      gives = whyAt powerUp (memory (0xFF ∷ 0x00 ∷ 0x01 ∷ [])) (replicate attributeBytes 3) 3 0;
+      says = Dark 1 ∷ [];
+    }
+    -- a row that goes on from place 4095 at place 0, where its FF stands
+    ∷ record { gives = whyAt powerUp overTheEnd (replicate attributeBytes 3) 1 0; says = Cell 4095 3 ∷ Link 1 ∷ [] }
+    ∷ record { gives = whyAt powerUp overTheEnd (replicate attributeBytes 3) 1 1; says = Fill 0 ∷ Link 1 ∷ [] }
+    -- "5 also for a column over 131", and a row over 24; 1 wins
+    ∷ record { gives = whyAt powerUp (memory []) (replicate attributeBytes 0) 0 132; says = Refused 5 ∷ [] }
+    ∷ record { gives = whyAt powerUp (memory []) (replicate attributeBytes 0) 25 0; says = Refused 5 ∷ [] }
+    ∷ record { gives = whyAt powerUp (memory []) (replicate (attributeBytes - 1) 0) 25 0; says = Refused 1 ∷ [] }
+    ∷ []
+
+-- the program `why`, printed whole
+unfoldable pub sentences : List Case
+sentences =
+    record {
+      gives = saidOf powerUp (memory looped) (besideLink 3 6) 1 0;
+      says =
+          Prints
+          (ascii "Row 1, column 0 shows \"C\", blinking, underlined, in reverse, held at place 6 of screen memory in "
+          ++ ascii "a row of double width that scrolls.\n"
+          ++ ascii "Row 0 starts at place 0; the link at place 3 leads to row 1 at place 6.\n")
+          ∷ [];
+    }
+    ∷ record {
+      gives = saidOf powerUp (memory looped) (besideLink 3 2) 2 2;
+      says =
+          Prints
+          (ascii "Row 2, column 2 is filled with a blank, since the row's end mark stands at place 2 of "
+          ++ ascii "screen memory.\n"
+          ++ ascii "Row 0 starts at place 0; the link at place 3 leads to row 1 at place 6; "
+          ++ ascii "the link at place 8 leads to row 2 at place 0.\n")
+          ∷ [];
+    }
+    ∷ record {
+      gives = saidOf powerUp (memory looped) (besideLink 3 1) 1 40;
+      says =
+          Prints
+          (ascii "Row 1 has no column 40: the top half of a row of double height has columns 0 to 39 only.\n"
+          ++ ascii "Row 0 starts at place 0; the link at place 3 leads to row 1 at place 6.\n")
+          ∷ [];
+    }
+    ∷ record {
+      gives = saidOf powerUp (memory []) (replicate attributeBytes 0) 24 0;
+      says =
+          Prints
+          (ascii "Row 24, column 0 is dark, since row 0 is torn: its end mark is missing or too far on, "
+          ++ ascii "so no row follows it.\n"
+          ++ ascii "Row 0 starts at place 0.\n")
+          ∷ [];
+    }
+    ∷ record { gives = saidOf powerUp (memory []) (replicate attributeBytes 0) 25 0; says = Prints [] ∷ [] }
+    ∷ []
+
 unfoldable pub table : List Case
-table = screens ++ wildLinks ++ stores ++ held ++ writes ++ ticks ++ resets ++ mends ++ dots ++ scrolls ++ prints
+table = screens ++ wildLinks ++ stores ++ held ++ writes ++ ticks ++ resets ++ mends ++ dots ++ scrolls ++ whys ++ sentences
+    ++ prints

@@ -19,7 +19,7 @@ use Rattle.chain.specs.declared.Ahead.the-variants.{Row as RowAhead, Dar
 use Rattle.chain.proofs.Laws.{ahead-leads}
 
 -- a place and the place modulo 4,096 are one
-same-place : (s : List ℕ) (place : ℕ) → byteAt s (place % places) ≡ byteAt s place
+pub same-place : (s : List ℕ) (place : ℕ) → byteAt s (place % places) ≡ byteAt s place
 unfolding byteAt
 same-place s place = ap (λ (n : ℕ). getD s n 0) (mod-mod place places)
 
@@ -115,7 +115,7 @@ module _ (s : List ℕ) (start : ℕ) where
           let here = alike cells (omega (arith, on, looked-from (cells + 1) bytes)) in
           rw (← here, h) (later (λ i g. alike i (omega (arith, on))))
 
-link-alike :
+pub link-alike :
     (c d : Chain) (place : ℕ) → byteAt (c .screen) (place + 1) ≡ byteAt (d .screen) (place + 1)
     → byteAt (c .screen) (place + 2) % 16 ≡ byteAt (d .screen) (place + 2) % 16
     → byteAt (c .attribute) (place + 1) ≡ byteAt (d .attribute) (place + 1)

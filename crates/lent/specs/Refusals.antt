@@ -29,7 +29,7 @@ abbrev pub codeRefused : ℕ
 codeRefused = 4
 
 -- a row over 24 (02, ticket 5: "The row limit in 01's number 5 becomes 24"), a scan outside 1 to 10, a shadow place
--- over 255
+-- over 255; 02, ticket 6: "5 also for a column over 131"
 abbrev pub placeRefused : ℕ
 placeRefused = 5
 

@@ -39,7 +39,7 @@ pub const ADDRESS: u8 = 2;
 pub const PORT: u8 = 3;
 // The code is not in that port's list.
 pub const CODE: u8 = 4;
-// A row over 24, a scan outside 1 to 10, a shadow place over 255.
+// A row over 24, a column over 131, a scan outside 1 to 10, a shadow place over 255.
 pub const PLACE: u8 = 5;
 // Bits 6 and 7 of 0A both rise in one write.
 pub const EDGES: u8 = 6;

@@ -33,7 +33,9 @@ pub const DRAW: usize = SHADOW_READ + 1;
 
 pub const MARKED: usize = DRAW + 1;
 
-pub const LINE: usize = MARKED + 1;
+pub const WHY: usize = MARKED + 1;
+
+pub const LINE: usize = WHY + 1;
 
 pub const LINES: usize = LINE + 1;
 
@@ -86,6 +88,7 @@ const FORM_TEXTS: [u8; FORMS * commands::FORM_BYTES] = *b"store HHHHHHHH HH     
     shadow read DDDDD               \
     draw                            \
     marked HHHHHHHH DDDDD           \
+    why DDDDD DDDDD                 \
     line DDDDD DDDDD                \
     lines                           \
     glyph HH                        \

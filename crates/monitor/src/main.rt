@@ -10,6 +10,7 @@ mod rows;
 mod say;
 mod scans;
 mod strewn;
+mod why;
 
 use desk::Desk;
 use input::Source;

@@ -67,7 +67,7 @@ pub fn because(refusal: u8) {
         lent::ADDRESS => line(b": the 8088 sees no memory at this address"),
         lent::PORT => line(b": the port is none of 04, 0A, 0C, 10C"),
         lent::CODE => line(b": the port has no such code"),
-        lent::PLACE => line(b": no such row, scan or place"),
+        lent::PLACE => line(b": no such row, column, scan or place"),
         lent::EDGES => line(b": bits 6 and 7 both rise"),
         lent::Z80_HELD => line(b": the Z80 is held in reset"),
         lent::IN_RESET => line(b": the 8088 is in reset"),
@@ -85,7 +85,8 @@ pub fn done(words: &[u8], refusal: u8) {
     }
 }
 
-fn flag(words: &[u8], set: bool) {
+// Words, then 1 or 0.
+pub fn flag(words: &[u8], set: bool) {
     text(words);
     if set {
         text(b" 1");

@@ -6,6 +6,7 @@ use crate::forms;
 use crate::lines;
 use crate::rows;
 use crate::say;
+use crate::why;
 use commands::Command;
 use machine::Machine;
 use picture::Drawn;
@@ -130,6 +131,7 @@ pub fn show(
     match form {
         forms::DRAW => draw_picture(desk, screen, attribute, picture),
         forms::MARKED => is_marked(command),
+        forms::WHY => why::explain(desk, command, screen, attribute),
         forms::LINE => draw_line(desk, command, picture, table, line),
         forms::LINES => lines::list(desk, picture, lines),
         forms::GLYPH => part(desk, command, table),

@@ -14,13 +14,13 @@ use Rattle.picture.specs.Picture.{recordAt}
 use Rattle.picture.specs.Sizes.{RecordsSized, PictureSized}
 use Rattle.picture.proofs.Records.{records-length}
 
-cells-length : (screen attribute : List ℕ) (start cells : ℕ) → length (cellPairs screen attribute start cells) ≡ 2 * cells
+pub cells-length : (screen attribute : List ℕ) (start cells : ℕ) → length (cellPairs screen attribute start cells) ≡ 2 * cells
 unfolding cellPairs
 cells-length screen attribute start zero = refl
 cells-length screen attribute start (suc cell) =
     rw (length-append, cells-length screen attribute start cell) (omega arith)
 
-shown-fit : (c : Chain) (row : Row) → reads c row ≤ c .columns + 3 → cellsShown c row ≤ c .columns
+pub shown-fit : (c : Chain) (row : Row) → reads c row ≤ c .columns + 3 → cellsShown c row ≤ c .columns
 unfolding reads
 shown-fit c (Whole head cells) h = omega arith
 shown-fit c (Torn head) h = capacity-within (c .columns) (head .kind)

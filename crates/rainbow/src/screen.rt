@@ -1,8 +1,11 @@
-// The picture: drawn afresh, kept by a store, and which rows the store changed.
+// The picture: drawn afresh, kept by a store, and which rows the store changed; and why a cell shows what it shows.
 ghost use mathlib.Core.Path.{_≡_};
 ghost use Rattle.picture.specs.Draw.{drawn, draw};
 ghost use Rattle.mending.specs.Store.{storedWithPicture, storeWithPicture};
 ghost use Rattle.marks.specs.Marks.{bitSet};
+ghost use Rattle.explaining.specs.Call.{explain};
+ghost use Rattle.explaining.specs.Numbers.{told};
+use explaining::Explained;
 use machine::Machine;
 use mending::Stored;
 use picture::Drawn;
@@ -46,4 +49,19 @@ pub extern "C" fn rainbow_is_marked(marks: u32, row: usize) -> bool
     ensures { λ r. ⌜ r ≡ bitSet marks row ⌝ }
 {
     marks::is_marked(marks, row)
+}
+
+// Says why a cell shows what it shows.
+#[no_mangle]
+pub extern "C" fn rainbow_explain(
+    machine: Machine,
+    screen: &[u8],
+    attribute: &[u8],
+    row: usize,
+    column: usize,
+) -> Explained
+    ensures { λ r. ⌜ r
+        ≡ told (explain machine (now (screen .entry)) (now (attribute .entry)) row column) ⌝ }
+{
+    explaining::tell(explaining::explain(machine, screen, attribute, row, column))
 }

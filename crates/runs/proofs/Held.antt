@@ -10,7 +10,7 @@ use Rattle.machine.specs.Settings.{z80Runs}
 use Rattle.memories.specs.View8088.{seen8088}
 use Rattle.memories.proofs.Laws.{accepted-right, store-refusal}
 use Rattle.mending.specs.Store.{StoredWithPicture, refusalWithPicture}
-use Rattle.runs.specs.World.{Memory, Shared, Private, Screen, Attribute, Picture, World, Call, Read8088, Store8088, ReadZ80, StoreZ80, ReadShadow, WriteShadow, WritePort, VerticalTick, WatchdogTick, Draw, StoreWithPicture, GlyphPart, DrawLine, ListLines, after, answer}
+use Rattle.runs.specs.World.{Memory, Shared, Private, Screen, Attribute, Picture, World, Call, Read8088, Store8088, ReadZ80, StoreZ80, ReadShadow, WriteShadow, WritePort, VerticalTick, WatchdogTick, Draw, StoreWithPicture, GlyphPart, DrawLine, ListLines, Explain, after, answer}
 use Rattle.runs.specs.Reach.{TheMachine, InReset, AllOf, has, hasMemory, Same, mayChange}
 use Rattle.runs.specs.Z80.{onlyParts, onlyMemories, isZ80, CodeHas, SameLengths}
 use Rattle.runs.specs.Kept.{Lent, Own, Another, lentBytes, keptBytes, lending, Step, Made, Lending, stepped}
@@ -61,6 +61,7 @@ aside Draw other = (refl, λ _. refl)
 aside (GlyphPart k) other = (refl, λ _. refl)
 aside (DrawLine r s) other = (refl, λ _. refl)
 aside ListLines other = (refl, λ _. refl)
+aside (Explain r k) other = (refl, λ _. refl)
 
 abbrev with-picture : (a : ℕ) → World → ℕ
 with-picture a w = refusalWithPicture (w .machine) (w .bytes Shared) (w .bytes Screen) (w .bytes Attribute) (w .bytes Picture) a
@@ -93,6 +94,7 @@ module _ (w v : World) (out : v .machine .reset ≡ false) (lengths : SameLength
   store-alike (GlyphPart k) is accepts = absurd (false≢true is)
   store-alike (DrawLine r s) is accepts = absurd (false≢true is)
   store-alike ListLines is accepts = absurd (false≢true is)
+  store-alike (Explain r k) is accepts = absurd (false≢true is)
 
 step-alike :
     (step : Step) (w v : World) → v .machine .reset ≡ false → SameLengths w v → w .bytes Shared ≡ v .bytes Shared

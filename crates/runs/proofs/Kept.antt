@@ -22,7 +22,7 @@ use Rattle.mending.proofs.True.{keeps-true}
 use Rattle.whole_screen.specs.Screen.{screenLines}
 use Rattle.whole_screen.specs.Call.{kindsIn, refusalList, Listed}
 use Rattle.whole_screen.proofs.Fresh.{of-the-chain}
-use Rattle.runs.specs.World.{Memory, Shared, Screen, Attribute, Picture, ScreenList, World, Call, Read8088, Store8088, ReadZ80, StoreZ80, ReadShadow, WriteShadow, WritePort, VerticalTick, WatchdogTick, Draw, StoreWithPicture, GlyphPart, DrawLine, ListLines, after, answer}
+use Rattle.runs.specs.World.{Memory, Shared, Screen, Attribute, Picture, ScreenList, World, Call, Read8088, Store8088, ReadZ80, StoreZ80, ReadShadow, WriteShadow, WritePort, VerticalTick, WatchdogTick, Draw, StoreWithPicture, GlyphPart, DrawLine, ListLines, Explain, after, answer}
 use Rattle.runs.specs.Reach.{AllOf, has, mayChange}
 use Rattle.runs.specs.Kept.{Lent, Own, Another, lentBytes, keptBytes, lending, keeping, leavesPictureBehind, Step, Made, Lending, stepped, inRuns, TheseAreIn, allInRuns, sameColumns, played, playedAll, Kept, KeptByRuns, KeptFromDrawing, ListFromKept}
 use Rattle.runs.proofs.Worlds.{refusedWithPicture, picture-refused}
@@ -37,7 +37,7 @@ drawable-after : (call : Call) (w : World) → drawable (after call w) ≡ drawa
 drawable-after call w = rw (lengths-stay call w Screen, lengths-stay call w Attribute, lengths-stay call w Picture)
 
 -- the four lengths of the store are the three of the drawing besides
-drawable-too :
+pub drawable-too :
     (shared screen attribute picture : ℕ) → lengthsWithPicture shared screen attribute picture ≡ true
     → lengthsPicture screen attribute picture ≡ true
 unfolding lengthsPicture
@@ -124,6 +124,7 @@ call-kept WatchdogTick w h c k = quiet-kept WatchdogTick w refl h c k
 call-kept (GlyphPart n) w h c k = k
 call-kept (DrawLine r s) w h c k = quiet-kept (DrawLine r s) w refl h c k
 call-kept ListLines w h c k = quiet-kept ListLines w refl h c k
+call-kept (Explain r n) w h c k = k
 
 -- a call that was lent other memories and refused leaves the world that is kept
 pub lending-stays : (lent : Memory → Lent) (call : Call) (w : World) → inRuns (Lending lent call) w ≡ true → stepped (Lending lent call) w ≡ w

@@ -11,3 +11,4 @@ pub mod Stopped
 pub mod Held
 pub mod Reset
 pub mod Watchdog
+pub mod Desk

@@ -37,6 +37,10 @@ use Rattle.scan_line.proofs.dots_of_line.Reads as dots-of-line
 use Rattle.scan_line.proofs.draw.Reads as draw-line
 use Rattle.whole_screen.specs.Call.{listed as listedLines}
 use Rattle.whole_screen.proofs.list_lines.Reads as list-lines
+use Rattle.explaining.proofs.explain.Reads as explain
+use Rattle.explaining.proofs.tell.Reads as tell
+use Rattle.sentences.specs.Sentences.{said}
+use Rattle.sentences.proofs.say.Reads as say
 use Rattle.commands.proofs.parse.Reads as parse
 use Rattle.commands.proofs.has_words.Reads as has-words
 use Rattle.commands.proofs.is_meant.Reads as is-meant
@@ -65,6 +69,7 @@ use Rattle.rainbow.proofs.dots.rainbow_glyph_part.Reads as c-glyph-part
 use Rattle.rainbow.proofs.dots.rainbow_scan_line.Reads as c-scan-line
 use Rattle.rainbow.proofs.dots.rainbow_dots_of_line.Reads as c-dots-of-line
 use Rattle.rainbow.proofs.dots.rainbow_list_lines.Reads as c-list-lines
+use Rattle.rainbow.proofs.screen.rainbow_explain.Reads as c-explain
 use Rattle.runs.specs.Once.{Once, AnswersOnce}
 
 pub no-second : {A : Type 0} {promised one other : A} → one ≡ promised → other ≡ promised → one ≡ other
@@ -138,13 +143,22 @@ draw-line-once κs a one two = no-second
 pub list-lines-once : Once list-lines.Post (λ κs r s. listedLines r (now (s .1 .1 .0)))
 list-lines-once κs a one two = no-second
 
+pub explain-once : AnswersOnce explain.Post
+explain-once κs a one two = no-second
+
+pub tell-once : AnswersOnce tell.Post
+tell-once κs a one two = no-second
+
 -- that they fit a line follows from the first clause
 pub dots-of-line-once : AnswersOnce dots-of-line.Post
 dots-of-line-once κs a one two p q = no-second (p .0) (q .0)
 
--- what the programs are made of; the length of the lister's text follows from the first clause of its promise
+-- what the programs are made of; the length of the text of two of them follows from the first clause of the promise
 pub list-rows-once : Once list-rows.Post (λ κs r s. listed r (now (s .1 .1 .1 .0)) (now (s .1 .1 .1 .1 .0)))
 list-rows-once κs a one two p q = no-second (p .0) (q .0)
+
+pub say-once : Once say.Post (λ κs r s. said r (now (s .1 .1 .1 .1 .1 .0)))
+say-once κs a one two p q = no-second (p .0) (q .0)
 
 pub parse-once : AnswersOnce parse.Post
 parse-once κs a one two = no-second
@@ -230,3 +244,6 @@ c-dots-of-line-once κs a one two = no-second
 
 pub c-list-lines-once : Once c-list-lines.Post (λ κs r s. listedLines r (now (s .1 .1 .0)))
 c-list-lines-once κs a one two = no-second
+
+pub c-explain-once : AnswersOnce c-explain.Post
+c-explain-once κs a one two = no-second

@@ -36,7 +36,7 @@ use Rattle.scan_line.proofs.Laws.{lentLine}
 use Rattle.scan_line.proofs.Line.{line-sized}
 use Rattle.whole_screen.specs.Call.{lengthsList, latchMost, kindsIn, refusalList, Listed}
 use Rattle.whole_screen.proofs.Shown.{always-240}
-use Rattle.runs.specs.World.{Memory, Shared, Private, Screen, Attribute, Glyphs, Nvm, Shadow, Picture, Line, ScreenList, numberOf, isMemory, World, withMachine, withBytes, Read8088, Store8088, ReadZ80, StoreZ80, ReadShadow, WriteShadow, WritePort, VerticalTick, WatchdogTick, Draw, StoreWithPicture, GlyphPart, DrawLine, ListLines, after}
+use Rattle.runs.specs.World.{Memory, Shared, Private, Screen, Attribute, Glyphs, Nvm, Shadow, Picture, Line, ScreenList, numberOf, isMemory, World, withMachine, withBytes, Read8088, Store8088, ReadZ80, StoreZ80, ReadShadow, WriteShadow, WritePort, VerticalTick, WatchdogTick, Draw, StoreWithPicture, GlyphPart, DrawLine, ListLines, Explain, after}
 use Rattle.runs.specs.Reach.{Part, TheMachine, Z80Bit, InReset, Below0800, From0800, AllOf, numberOfPart, has, Same, storedAt, ChangesOnly, LengthsStay}
 use Rattle.runs.proofs.Ports.{port-reset}
 use Rattle.runs.proofs.Worlds.{with-length, storedIn, stored-length, refused8088, store-refused, store-accepted, refusedZ80, z80-refused, z80-private, z80-shared, not-below, mendedIn, refusedWithPicture, picture-refused, picture-accepted}
@@ -280,6 +280,7 @@ changes-only (StoreWithPicture a b) w part h = go (refusedWithPicture a w) refl
 changes-only (GlyphPart k) w part h = same-refl part w
 changes-only (DrawLine r s) w part h = with-leaves Line _ w refl part (apart (AllOf Line) [] part h .0)
 changes-only ListLines w part h = with-leaves ScreenList _ w refl part (apart (AllOf ScreenList) [] part h .0)
+changes-only (Explain r k) w part h = same-refl part w
 
 pub lengths-stay : LengthsStay
 lengths-stay (Read8088 a) w one = refl
@@ -342,3 +343,4 @@ lengths-stay ListLines w one =
     let both = accepted-list w e in
     always-240 (kindsIn (w .bytes Picture)) (scrollLatch (w .machine)) (both .1) .0 ∙ sym (both .0)))
     one
+lengths-stay (Explain r k) w one = refl

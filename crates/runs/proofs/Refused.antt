@@ -22,12 +22,16 @@ use Rattle.dc011.specs.Dc011.{dc011Code, writeDc011}
 use Rattle.dc012.specs.Dc012.{writeDc012}
 use Rattle.diagnostic.specs.Diagnostic.{WrittenPort, writtenPort, writeDiagnostic, rises}
 use Rattle.ports.specs.Ports.{refusalPort, watched, writePort}
-use Rattle.picture.specs.Draw.{refusalDrawing, DrawnPicture}
+use Rattle.picture.specs.Draw.{refusalDrawing, DrawnPicture, chainOf}
 use Rattle.mending.specs.Store.{StoredWithPicture, refusalWithPicture}
 use Rattle.glyphs.specs.Glyphs.{glyphPart, partRefusal}
 use Rattle.scan_line.specs.Call.{refusalLine, DrawnLine}
 use Rattle.whole_screen.specs.Call.{refusalList, Listed}
-use Rattle.runs.specs.World.{Shared, Private, Screen, Attribute, Glyphs, Nvm, Shadow, Picture, Line, ScreenList, World, withMachine, withBytes, readAnswer, drawnAnswer, Read8088, Store8088, ReadZ80, StoreZ80, ReadShadow, WriteShadow, WritePort, VerticalTick, WatchdogTick, Draw, StoreWithPicture, GlyphPart, DrawLine, ListLines}
+use Rattle.explaining.specs.Call.{refusalExplain}
+use Rattle.explaining.specs.Numbers.{told}
+use Rattle.explaining.specs.declared.Why.{Why}
+use Rattle.explaining.proofs.Laws.{why-accepted}
+use Rattle.runs.specs.World.{Shared, Private, Screen, Attribute, Glyphs, Nvm, Shadow, Picture, Line, ScreenList, World, withMachine, withBytes, readAnswer, drawnAnswer, explainedAnswer, Read8088, Store8088, ReadZ80, StoreZ80, ReadShadow, WriteShadow, WritePort, VerticalTick, WatchdogTick, Draw, StoreWithPicture, GlyphPart, DrawLine, ListLines, Explain}
 use Rattle.runs.specs.Refused.{AllZero, ChangesNothing}
 use Rattle.runs.proofs.Worlds.{with-own, left8088, none-stored}
 
@@ -166,3 +170,12 @@ changes-nothing ListLines w h =
   where
     Kept : Listed → Type 0
     Kept left = (left .refusal ≡ accepted → ⊥) → (withBytes ScreenList (left .list) w ≡ w) × AllZero []
+changes-nothing (Explain r k) w h = (
+  refl,
+  either Kept (refuses (refusalExplain (w .bytes Screen) (w .bytes Attribute) r k)) _ _
+      (λ _ g. (refl, (refl, (refl, (refl, (refl, (refl, tt)))))))
+      (λ _ g. absurd (g (why-accepted (chainOf (w .machine) (w .bytes Screen) (w .bytes Attribute)) r k))) h,
+)
+  where
+    Kept : Why → Type 0
+    Kept why = (told why .refusal ≡ accepted → ⊥) → AllZero (explainedAnswer (told why) .numbers)

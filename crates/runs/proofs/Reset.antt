@@ -7,7 +7,7 @@ use lib.ListN.{length, drop}
 use Rattle.machine.specs.Settings.{z80Runs}
 use Rattle.machine.specs.declared.Machine.{Machine}
 use Rattle.memories.specs.ViewZ80.{sharedFrom}
-use Rattle.runs.specs.World.{Memory, Shared, Private, World, withMachine, Call, Read8088, Store8088, ReadZ80, StoreZ80, ReadShadow, WriteShadow, WritePort, VerticalTick, WatchdogTick, Draw, StoreWithPicture, GlyphPart, DrawLine, ListLines, Answer}
+use Rattle.runs.specs.World.{Memory, Shared, Private, World, withMachine, Call, Read8088, Store8088, ReadZ80, StoreZ80, ReadShadow, WriteShadow, WritePort, VerticalTick, WatchdogTick, Draw, StoreWithPicture, GlyphPart, DrawLine, ListLines, Explain, Answer}
 use Rattle.runs.specs.Reach.{Z80Bit, has, hasMemory, Same}
 use Rattle.runs.specs.Z80.{onlyParts, onlyMemories, isZ80, Agree}
 use Rattle.runs.specs.Kept.{Lent, Own, Another, lentBytes, keptBytes, lending, keeping, Step, Made, Lending, stepped}
@@ -56,6 +56,7 @@ not-both Draw is = absurd (false≢true is)
 not-both (GlyphPart k) is = absurd (false≢true is)
 not-both (DrawLine r s) is = absurd (false≢true is)
 not-both ListLines is = absurd (false≢true is)
+not-both (Explain r k) is = absurd (false≢true is)
 
 -- a call that is no access of the 8088 leaves whether the Z80 runs
 bit-stays : (step : Step) (w : World) → is8088 (callOf step) ≡ false → Same Z80Bit (stepped step w) w

@@ -27,7 +27,7 @@ use Rattle.picture.specs.Draw.{refusalDrawing, refuseDrawing, DrawnPicture, dra
 use Rattle.mending.specs.Mending.{marksOf}
 use Rattle.scan_line.specs.Call.{refusalLine, DrawnLine, drawLine}
 use Rattle.whole_screen.specs.Call.{refusalList, Listed, listLines}
-use Rattle.runs.specs.World.{Memory, Shared, Private, Screen, Attribute, Glyphs, Nvm, Shadow, Picture, Line, ScreenList, isMemory, World, withMachine, withBytes, answered, drawnAnswer, Read8088, Store8088, ReadZ80, StoreZ80, ReadShadow, WriteShadow, WritePort, VerticalTick, WatchdogTick, Draw, StoreWithPicture, GlyphPart, DrawLine, ListLines, after, answer}
+use Rattle.runs.specs.World.{Memory, Shared, Private, Screen, Attribute, Glyphs, Nvm, Shadow, Picture, Line, ScreenList, isMemory, World, withMachine, withBytes, answered, drawnAnswer, Read8088, Store8088, ReadZ80, StoreZ80, ReadShadow, WriteShadow, WritePort, VerticalTick, WatchdogTick, Draw, StoreWithPicture, GlyphPart, DrawLine, ListLines, Explain, after, answer}
 use Rattle.runs.specs.Reach.{Part, TheMachine, Z80Bit, InReset, Below0800, From0800, AllOf, has, hasMemory, Same, Alike, SeesOnly}
 use Rattle.runs.proofs.Worlds.{is-memory, storedIn, refused8088, store-refused, store-accepted, refusedZ80, z80-refused, z80-private, z80-shared, not-below, mendedIn, refusedWithPicture, picture-refused, picture-accepted}
 use Rattle.runs.proofs.Reach.{same-by}
@@ -354,3 +354,5 @@ sees-only ListLines w v c =
           ∙ sym (list-told (v .machine) (v .bytes Picture) (v .bytes ScreenList))),
       with-alike ScreenList _ _ w v (λ e. rw (m, picture, e)) refl,
     )
+sees-only (Explain r k) w v c =
+    (rw (c .seen TheMachine refl, c .seen (AllOf Screen) refl, c .seen (AllOf Attribute) refl), λ part s. s)

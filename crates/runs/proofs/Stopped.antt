@@ -20,7 +20,7 @@ use Rattle.diagnostic.specs.Diagnostic.{WrittenPort, writtenPort}
 use Rattle.ports.specs.Ports.{lengthsNvm}
 use Rattle.ports.proofs.Laws.{port-in-reset}
 use Rattle.mending.specs.Store.{StoredWithPicture}
-use Rattle.runs.specs.World.{Shared, Private, Screen, Attribute, Nvm, Shadow, Picture, World, Call, Read8088, Store8088, ReadZ80, StoreZ80, ReadShadow, WriteShadow, WritePort, VerticalTick, WatchdogTick, Draw, StoreWithPicture, GlyphPart, DrawLine, ListLines, Answer, answer}
+use Rattle.runs.specs.World.{Shared, Private, Screen, Attribute, Nvm, Shadow, Picture, World, Call, Read8088, Store8088, ReadZ80, StoreZ80, ReadShadow, WriteShadow, WritePort, VerticalTick, WatchdogTick, Draw, StoreWithPicture, GlyphPart, DrawLine, ListLines, Explain, Answer, answer}
 use Rattle.runs.specs.Z80.{isZ80}
 use Rattle.runs.specs.Kept.{lending, Step, Made, Lending, stepped}
 use Rattle.runs.specs.Stopped.{Processor, The8088, TheZ80, is8088, isOf, isStopped, stopNumber, callOf, answerOf, steppedAll, stoppedAt, stoppedAtItsCalls, answersOf, allStopped, without, StoppedTouchesNothing}
@@ -99,6 +99,7 @@ module _ (w : World) (reset : w .machine .reset ≡ true) where
   stopped-8088 (GlyphPart k) is = absurd (false≢true is)
   stopped-8088 (DrawLine r s) is = absurd (false≢true is)
   stopped-8088 ListLines is = absurd (false≢true is)
+  stopped-8088 (Explain r k) is = absurd (false≢true is)
 
 stopped : (p : Processor) (call : Call) (w : World) → isOf p call ≡ true → isStopped p (w .machine) ≡ true → stopOrOne p (answer call w .refusal) ≡ true
 stopped The8088 call w is stops = stopped-8088 w stops call is

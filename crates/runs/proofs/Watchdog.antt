@@ -12,7 +12,7 @@ use Rattle.machine.specs.Settings.{bit}
 use Rattle.machine.specs.Watchdog.{watchTicks, watchdogTick}
 use Rattle.machine.specs.declared.Machine.{Machine}
 use Rattle.chain.proofs.Searching.{neither}
-use Rattle.runs.specs.World.{Nvm, Shadow, World, Call, Read8088, Store8088, ReadZ80, StoreZ80, ReadShadow, WriteShadow, WritePort, VerticalTick, WatchdogTick, Draw, StoreWithPicture, GlyphPart, DrawLine, ListLines, after, answer}
+use Rattle.runs.specs.World.{Nvm, Shadow, World, Call, Read8088, Store8088, ReadZ80, StoreZ80, ReadShadow, WriteShadow, WritePort, VerticalTick, WatchdogTick, Draw, StoreWithPicture, GlyphPart, DrawLine, ListLines, Explain, after, answer}
 use Rattle.runs.specs.Kept.{lending, Step, Made, Lending, stepped}
 use Rattle.runs.specs.Stopped.{callOf, answerOf, steppedAll}
 use Rattle.runs.specs.Watchdog.{Event, Tick, Wrote, Nothing, happened, enabled, is09, enables, ticks, is128th, inReset, sinceReset, sinceStart, pastOf, MeansTicks, CountMeansTicks, sinceWrite, TopBitOfTheTimer}
@@ -56,6 +56,7 @@ follows Draw w = either-way (refuses (answer Draw w .refusal)) (w .machine)
 follows (GlyphPart k) w = either-way (refuses (answer (GlyphPart k) w .refusal)) (w .machine)
 follows (DrawLine r s) w = either-way (refuses (answer (DrawLine r s) w .refusal)) (w .machine)
 follows ListLines w = either-way (refuses (answer ListLines w .refusal)) (w .machine)
+follows (Explain r k) w = either-way (refuses (answer (Explain r k) w .refusal)) (w .machine)
 
 -- what a past says of a machine; and how many times the timer of 8 bits has gone round since the last code 09 or
 -- enabling

@@ -19,7 +19,7 @@ use Rattle.ports.specs.Ports.{refusalPort, watched}
 use Rattle.memories.specs.View8088.{seen8088}
 use Rattle.memories.proofs.Laws.{access-by-reset}
 use Rattle.chain.proofs.Searching.{neither}
-use Rattle.runs.specs.World.{Memory, Shared, Private, Screen, Attribute, Glyphs, Nvm, Shadow, Picture, Line, ScreenList, isMemory, World, withBytes, Call, Read8088, Store8088, ReadZ80, StoreZ80, ReadShadow, WriteShadow, WritePort, VerticalTick, WatchdogTick, Draw, StoreWithPicture, GlyphPart, DrawLine, ListLines, after, answer}
+use Rattle.runs.specs.World.{Memory, Shared, Private, Screen, Attribute, Glyphs, Nvm, Shadow, Picture, Line, ScreenList, isMemory, World, withBytes, Call, Read8088, Store8088, ReadZ80, StoreZ80, ReadShadow, WriteShadow, WritePort, VerticalTick, WatchdogTick, Draw, StoreWithPicture, GlyphPart, DrawLine, ListLines, Explain, after, answer}
 use Rattle.runs.specs.Reach.{Part, TheMachine, Z80Bit, InReset, Below0800, From0800, AllOf, numberOfPart, has, hasMemory, Same, mayChange, Alike}
 use Rattle.runs.specs.Z80.{onlyParts, onlyMemories, z80Lent, z80Sees, isZ80, ItsTwoCalls, OnlyItsOwn, runsAfter, BitFromCode, CodeHas, Agree, unseenByZ80, Turn, Both, LeftAlone, RightAlone, left, right, answers, SameBit, storesInBoth, SameLengths, SameAnswers, CodesHave, SameBitByCodes}
 use Rattle.runs.proofs.Worlds.{is-memory, mendedIn, refusedWithPicture, picture-refused, picture-accepted}
@@ -49,6 +49,7 @@ of-z80 P reads stores (StoreWithPicture a b) is = absurd (false≢true is)
 of-z80 P reads stores (GlyphPart k) is = absurd (false≢true is)
 of-z80 P reads stores (DrawLine r s) is = absurd (false≢true is)
 of-z80 P reads stores ListLines is = absurd (false≢true is)
+of-z80 P reads stores (Explain r k) is = absurd (false≢true is)
 
 pub only-its-own : OnlyItsOwn
 only-its-own call w part is h =
@@ -102,6 +103,7 @@ keeps-the-bit Draw w runs h codes = h
 keeps-the-bit (GlyphPart k) w runs h codes = h
 keeps-the-bit (DrawLine r s) w runs h codes = h
 keeps-the-bit ListLines w runs h codes = h
+keeps-the-bit (Explain r k) w runs h codes = h
 
 pub agree-sym : {w v : World} → Agree w v → Agree v w
 agree-sym h =
@@ -238,6 +240,7 @@ module _ (w v : World) (same : Agree w v) where
   stores-in-both (GlyphPart k) is un reset lengths = absurd (true≢false un)
   stores-in-both (DrawLine r s) is un reset lengths = absurd (true≢false un)
   stores-in-both ListLines is un reset lengths = absurd (true≢false un)
+  stores-in-both (Explain r k) is un reset lengths = absurd (true≢false un)
 
 lengths-after : (call : Call) (w v : World) → SameLengths w v → SameLengths (after call w) (after call v)
 lengths-after call w v lengths memory = lengths-stay call w memory ∙ lengths memory ∙ sym (lengths-stay call v memory)

@@ -9,3 +9,4 @@ pub mod Stopped
 pub mod Held
 pub mod Reset
 pub mod Watchdog
+pub mod Desk

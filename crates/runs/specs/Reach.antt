@@ -10,7 +10,7 @@ use Rattle.memories.specs.View8088.{seen8088}
 use Rattle.memories.specs.ViewZ80.{sharedFrom}
 use Rattle.memories.specs.declared.view8088.Seen.{Seen}
 use Rattle.memories.specs.declared.view8088.Seen.the-variants.{Shared as InShared, Screen as InScreen, Attribute as InAttribute, Nowhere}
-use Rattle.runs.specs.World.{Memory, Shared, Private, Screen, Attribute, Glyphs, Nvm, Shadow, Picture, Line, ScreenList, numberOf, isMemory, World, Call, Read8088, Store8088, ReadZ80, StoreZ80, ReadShadow, WriteShadow, WritePort, VerticalTick, WatchdogTick, Draw, StoreWithPicture, GlyphPart, DrawLine, ListLines, after, answer}
+use Rattle.runs.specs.World.{Memory, Shared, Private, Screen, Attribute, Glyphs, Nvm, Shadow, Picture, Line, ScreenList, numberOf, isMemory, World, Call, Read8088, Store8088, ReadZ80, StoreZ80, ReadShadow, WriteShadow, WritePort, VerticalTick, WatchdogTick, Draw, StoreWithPicture, GlyphPart, DrawLine, ListLines, Explain, after, answer}
 
 -- a part of the world: the machine, the bit of it by which the Z80 runs, whether the 8088 is in reset, shared memory
 -- below 0800 and from there on, or all of a memory
@@ -90,6 +90,8 @@ reach (GlyphPart code) = reaches (Glyphs ∷ []) (AllOf Glyphs ∷ []) []
 reach (DrawLine row scan) =
     reaches (Picture ∷ Glyphs ∷ Line ∷ []) (TheMachine ∷ AllOf Picture ∷ AllOf Glyphs ∷ []) (AllOf Line ∷ [])
 reach ListLines = reaches (Picture ∷ ScreenList ∷ []) (TheMachine ∷ AllOf Picture ∷ []) (AllOf ScreenList ∷ [])
+reach (Explain row column) =
+    reaches (Screen ∷ Attribute ∷ []) (TheMachine ∷ AllOf Screen ∷ AllOf Attribute ∷ []) []
 
 abbrev pub mayChange : Call → Part → Bool
 mayChange call part = has (reach call .changes) part

@@ -8,7 +8,7 @@ use lib.Dec.{eqb}
 use Rattle.lent.specs.Refusals.{lengthRefused, z80HeldRefused, inResetRefused}
 use Rattle.machine.specs.Settings.{z80Runs}
 use Rattle.machine.specs.declared.Machine.{Machine}
-use Rattle.runs.specs.World.{World, Call, Read8088, Store8088, ReadZ80, StoreZ80, ReadShadow, WriteShadow, WritePort, VerticalTick, WatchdogTick, Draw, StoreWithPicture, GlyphPart, DrawLine, ListLines, Answer, answer}
+use Rattle.runs.specs.World.{World, Call, Read8088, Store8088, ReadZ80, StoreZ80, ReadShadow, WriteShadow, WritePort, VerticalTick, WatchdogTick, Draw, StoreWithPicture, GlyphPart, DrawLine, ListLines, Explain, Answer, answer}
 use Rattle.runs.specs.Z80.{isZ80}
 use Rattle.runs.specs.Kept.{Step, Made, Lending, lending, stepped}
 
@@ -32,6 +32,7 @@ is8088 Draw = false
 is8088 (GlyphPart code) = false
 is8088 (DrawLine row scan) = false
 is8088 ListLines = false
+is8088 (Explain row column) = false
 
 -- whether a call is made by a processor
 abbrev pub isOf : Processor → Call → Bool

@@ -8,7 +8,7 @@ use Rattle.lent.specs.Refusals.{refuses}
 use Rattle.machine.specs.Power.{powerUp}
 use Rattle.machine.specs.Settings.{bit}
 use Rattle.machine.specs.Watchdog.{watchTicks}
-use Rattle.runs.specs.World.{World, Call, Read8088, Store8088, ReadZ80, StoreZ80, ReadShadow, WriteShadow, WritePort, VerticalTick, WatchdogTick, Draw, StoreWithPicture, GlyphPart, DrawLine, ListLines}
+use Rattle.runs.specs.World.{World, Call, Read8088, Store8088, ReadZ80, StoreZ80, ReadShadow, WriteShadow, WritePort, VerticalTick, WatchdogTick, Draw, StoreWithPicture, GlyphPart, DrawLine, ListLines, Explain}
 use Rattle.runs.specs.Kept.{Step, stepped}
 use Rattle.runs.specs.Stopped.{callOf, answerOf, steppedAll}
 
@@ -34,6 +34,7 @@ eventOf Draw = Nothing
 eventOf (GlyphPart code) = Nothing
 eventOf (DrawLine row scan) = Nothing
 eventOf ListLines = Nothing
+eventOf (Explain row column) = Nothing
 
 -- a call with its answer: one that was refused is nothing
 abbrev pub happened : Call → (refusal : ℕ) → Event

@@ -18,6 +18,9 @@ use Rattle.mending.specs.Store.{storeWithPicture}
 use Rattle.glyphs.specs.Glyphs.{glyphPart, partRefusal}
 use Rattle.scan_line.specs.Call.{drawLine}
 use Rattle.whole_screen.specs.Call.{listLines}
+use Rattle.explaining.specs.Call.{explain}
+use Rattle.explaining.specs.Numbers.{told}
+use Rattle.explaining.specs.declared.Explained.{Explained}
 
 -- the memories of document 01's list, "Lent memory", and those that document 02 adds
 pub data Memory : Type 0 where
@@ -77,9 +80,10 @@ pub data Call : Type 0 where
   GlyphPart : (code : ℕ) → Call
   DrawLine : (row scan : ℕ) → Call
   ListLines : Call
+  Explain : (row column : ℕ) → Call
 
 -- what a call answers: its number of refusal, and its other numbers: the byte read, the bytes that the walk read,
--- whether a row is wild and the first that is, the marks, the bytes of a part
+-- whether a row is wild and the first that is, the marks, the bytes of a part, why a cell shows what it shows
 pub record Answer : Type 0 where
   pub refusal : ℕ
   pub numbers : List ℕ
@@ -93,6 +97,11 @@ readAnswer read = answered (read .refusal) (read .byte ∷ [])
 abbrev pub drawnAnswer : Drawn → Answer
 drawnAnswer drawn =
     answered (drawn .refusal) (drawn .reads ∷ cond (drawn .wild) 1 0 ∷ drawn .«wild_row» ∷ [])
+
+abbrev pub explainedAnswer : Explained → Answer
+explainedAnswer why =
+    answered (why .refusal)
+    (why .answer ∷ why .place ∷ why .kind ∷ why .tore ∷ cond (why .linked) 1 0 ∷ why .link ∷ [])
 
 -- what a call answers, and the world that it leaves
 pub record Outcome : Type 0 where
@@ -143,6 +152,8 @@ outcome (DrawLine row scan) w =
 outcome ListLines w =
     let left = listLines (w .machine) (w .bytes Picture) (w .bytes ScreenList) in
     leaving (answered (left .refusal) []) (withBytes ScreenList (left .list) w)
+outcome (Explain row column) w =
+    leaving (explainedAnswer (told (explain (w .machine) (w .bytes Screen) (w .bytes Attribute) row column))) w
 
 abbrev pub answer : Call → World → Answer
 answer call w = outcome call w .answer

@@ -20,7 +20,10 @@ fn help() {
     println!("Makes N calls of a library (1000000 if not said; a first sweep of some thousands is made whole),");
     println!("chosen by the seed S, and compares each with a model of documents 01 and 02. Ahead of them come the");
     println!("lists of the whole screen with every one or two runs of rows that scroll, and some millions of ticks of");
-    println!("the watchdog's clock, with codes between them; fewer of both if N is under 1000000.");
+    println!("the watchdog's clock, with codes between them; after them every cell of some hundred screens is");
+    println!(
+        "explained, at both settings, and stored into; fewer of all these if N is under 1000000."
+    );
     println!("LIBRARY is a librainbow.so, or run: and a command that serves its calls, as host/serve.c does.");
     println!("--against: makes each call of a second library too, and compares it with the first.");
     println!("Exit status: 0 no difference, 1 a difference, whose shortest script is printed, 2 bad arguments.");
@@ -108,6 +111,38 @@ fn print_tally(tally: &Tally, seconds: f64) {
     let [at_rest, scrolled] = tally.lists;
     println!("{:<20}{at_rest:>9}", "lists: at rest");
     println!("{:<20}{scrolled:>9}", "lists: scrolled");
+    print_explained(tally);
+}
+
+fn print_explained(tally: &Tally) {
+    let answers = ["refused", "cell", "fill", "past", "dark"];
+    for (answer, times) in answers.into_iter().zip(tally.explained) {
+        println!("explained: {answer:<9}{times:>9}");
+    }
+    let promises = &tally.promises;
+    for (name, times) in [
+        (
+            "cells stored into, which no earlier row reads",
+            promises.tried,
+        ),
+        ("  of these, which a later row reads", promises.read_later),
+        (
+            "cells stored into, which an earlier row reads",
+            promises.read_earlier,
+        ),
+        (
+            "  of these, which show the byte all the same",
+            promises.shown_all_the_same,
+        ),
+    ] {
+        println!("{name:<46}{times:>9}");
+    }
+}
+
+/// The desk's promise has to be tried, and stores for which there is none.
+fn is_tried(tally: &Tally) -> bool {
+    let promises = &tally.promises;
+    promises.tried > 0 && promises.read_earlier > 0
 }
 
 fn main() {
@@ -125,7 +160,12 @@ fn main() {
     // A seed of few bits would begin with numbers of few bits.
     let seed = asked.seed.wrapping_mul(0x9E37_79B9_7F4A_7C15) | 1;
     match load(asked.calls, seed, tried) {
-        Ok(tally) => print_tally(&tally, begun.elapsed().as_secs_f64()),
+        Ok(tally) => {
+            print_tally(&tally, begun.elapsed().as_secs_f64());
+            if !is_tried(&tally) {
+                give_up("the place of a cell was never stored into, with and without an earlier row that reads it");
+            }
+        }
         Err(script) => {
             println!("{script}");
             exit(1);

@@ -3,7 +3,7 @@
 use host::mutants::build::Shop;
 use host::mutants::equivalent::Reasons;
 use host::mutants::noticed::{verdict, Run, Verdict, CRASH, ENDLESS};
-use host::mutants::{of_file, rules, Mutant};
+use host::mutants::{of_file, questions, rules, Mutant};
 use host::rattle::tree::{files_of, Tree};
 use std::fs;
 use std::path::{Path, PathBuf};
@@ -12,7 +12,7 @@ use std::sync::Mutex;
 use std::thread;
 
 /// In the order in which they are asked: the scripts try the most.
-const PROGRAMS: [&str; 3] = ["monitor", "rows", "tube"];
+const PROGRAMS: [&str; 4] = ["monitor", "rows", "tube", "why"];
 
 fn give_up(why: impl std::fmt::Display) -> ! {
     eprintln!("mutants: {why}");
@@ -145,10 +145,11 @@ fn main() {
     let reasons = expect(Reasons::read(&reasons));
     let mutants = mutants_of(&root, &crates);
     let shop = expect(Shop::open(&root, &tree, root.join("target/mutants/right")));
-    let runs: Vec<Run> = PROGRAMS
+    let mut runs: Vec<Run> = PROGRAMS
         .iter()
         .map(|name| expect(Run::stored(&root, name)))
         .collect();
+    runs.extend(expect(questions::runs(&root.join("target/mutants/asked"))));
     for run in &runs {
         if let Some(case) = expect(run.noticed(&shop.built(&run.program))) {
             give_up(format!(

@@ -1,6 +1,6 @@
 //! Addresses and bytes that matter: the bytes that rows read, those beside them, and the edges of the ranges.
 use super::model::Model;
-use crate::chain::{capacity, COUNT_AT, DARK, KIND_AT, PLACES, RECORD, ROWS, TORN};
+use crate::chain::{capacity, COUNT_AT, DARK, KIND_AT, PAIRS, PLACES, RECORD, ROWS, TORN};
 use crate::hard::Chance;
 
 pub const EDGES: [u32; 20] = [
@@ -8,7 +8,7 @@ pub const EDGES: [u32; 20] = [
     0xEF000, 0xEFFFF, 0xF0000, 0xFFFFF, 0x100000, 0x1EE000, 0xFFFEE000, 0xFFFFFFFF,
 ];
 
-const SCREEN: u32 = 0xEE000;
+pub const SCREEN: u32 = 0xEE000;
 const ATTRIBUTE: u32 = 0xEF000;
 
 /// A row that the picture shows, as its start, its capacity, and its cells; torn if it has no FF.
@@ -110,6 +110,42 @@ pub fn store(chance: &mut Chance, model: &Model) -> (u32, u8) {
         return (address, byte & 0x0F);
     }
     (address, byte)
+}
+
+/// A row and a column: most often those of a cell that the picture shows, or beside the end of the row or its capacity,
+/// now and then of a dark row.
+pub fn cell(chance: &mut Chance, model: &Model) -> (usize, usize) {
+    let lit = lit(model);
+    let row = match chance.below(8) {
+        0 => chance.below(ROWS),
+        1 => lit,
+        _ => chance.below(lit + 1).max(chance.below(lit + 1)),
+    };
+    let row = row.min(ROWS - 1);
+    let Shown {
+        capacity, cells, ..
+    } = shown(model, row);
+    let column = match chance.below(12) {
+        0 => 0,
+        1 => cells.saturating_sub(1),
+        2 => cells,
+        3 => cells + 1,
+        4 => capacity - 1,
+        5 => capacity,
+        6 => capacity + 1,
+        7 => chance.below(PAIRS),
+        _ => chance.below(cells + 1),
+    };
+    (row, column)
+}
+
+/// The address of a place of screen memory, and a byte to store there: any that differs and is not FF.
+pub fn other_byte(chance: &mut Chance, model: &Model, place: usize) -> (u32, u8) {
+    let old = usize::from(model.view.screen[place]);
+    (
+        SCREEN + place as u32,
+        ((old + 1 + chance.below(254)) % 255) as u8,
+    )
 }
 
 pub fn z80(chance: &mut Chance) -> u16 {

@@ -134,6 +134,7 @@ pub enum Call {
     GlyphPart { code: u8 },
     ScanLine { row: usize, scan: usize },
     ListLines,
+    Explain { row: usize, column: usize },
     SetMachine(Machine),
     AlterPicture { place: usize, byte: u8 },
     StrewPicture { seed: u64 },
@@ -167,6 +168,7 @@ impl Call {
             Self::GlyphPart { .. } => "glyph_part",
             Self::ScanLine { .. } => "scan_line",
             Self::ListLines => "list_lines",
+            Self::Explain { .. } => "explain",
             _ => return None,
         };
         FUNCTIONS.iter().position(|known| *known == name)
@@ -208,6 +210,7 @@ impl Call {
             Self::GlyphPart { .. } => &[Table],
             Self::ScanLine { .. } => &[Picture, Table, Line],
             Self::ListLines => &[Picture, List],
+            Self::Explain { .. } => &[Screen, Attribute],
             _ => &[],
         }
     }

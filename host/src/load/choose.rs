@@ -5,7 +5,7 @@ use super::model::Model;
 use super::sides::Sides;
 use super::watch_runs::{self, Manner, MANNERS};
 use super::world;
-use crate::chain::{PICTURE, ROWS};
+use crate::chain::{PAIRS, PICTURE, ROWS};
 use crate::dots::{SCANS, UNDERLINE_SCAN};
 use crate::hard::Chance;
 use crate::memories::SHADOW;
@@ -48,14 +48,16 @@ enum Choice {
     Marked,
     Part,
     Line,
+    Explain,
 }
 
-const CHOICES: [(usize, Choice); 24] = [
+const CHOICES: [(usize, Choice); 25] = [
     (260, Choice::Stored),
     (120, Choice::Port),
     (60, Choice::Read8088),
     (60, Choice::Line),
     (60, Choice::Plain(Call::ListLines)),
+    (100, Choice::Explain),
     (50, Choice::ReadZ80),
     (50, Choice::StoreZ80),
     (50, Choice::WriteShadow),
@@ -203,6 +205,7 @@ fn call(chance: &mut Chance, model: &Model, choice: Choice) -> Call {
             let (address, byte) = aim::store(chance, model);
             Call::StoreWithPicture { address, byte }
         }
+        Choice::Explain => explain(chance, model),
         Choice::ReadZ80 => Call::ReadZ80 {
             address: aim::z80(chance),
         },
@@ -211,6 +214,22 @@ fn call(chance: &mut Chance, model: &Model, choice: Choice) -> Call {
             byte: chance.byte(),
         },
         _ => numbered(chance, choice),
+    }
+}
+
+/// A cell to be explained, with a row or a column that is none now and then.
+fn explain(chance: &mut Chance, model: &Model) -> Call {
+    let (row, column) = aim::cell(chance, model);
+    match chance.below(8) {
+        0 => Call::Explain {
+            row: about(chance, ROWS),
+            column,
+        },
+        1 => Call::Explain {
+            row,
+            column: about(chance, PAIRS),
+        },
+        _ => Call::Explain { row, column },
     }
 }
 
@@ -252,6 +271,14 @@ pub fn step(chance: &mut Chance, sides: &Sides, way: Way) -> Step {
         return by_hand(chance).into();
     }
     let machine = &sides.model.machine;
+    // A cell was explained: the desk stores into the place that was named, and looks at the screen again.
+    if sides.has_promise() {
+        return Call::DrawAfresh.into();
+    }
+    if let (Some(asked), 0) = (sides.asked, chance.below(2)) {
+        let (address, byte) = aim::other_byte(chance, &sides.model, asked.place);
+        return Call::StoreWithPicture { address, byte }.into();
+    }
     match way {
         Way::Z80 if chance.below(4) > 0 => {
             let call = about_the_z80(chance);

@@ -4,17 +4,18 @@ use super::library::Library;
 use super::list_fault;
 use super::model::Model;
 use super::seen::mirrored;
+use super::why_fault;
 use crate::chain::{wild_rows, PAIRS_AT, PICTURE, PLACES, RECORD, ROWS};
 use crate::dots::SCANS;
 use crate::machine::Machine;
-use crate::rainbow::{Seen, Wild};
+use crate::rainbow::{Seen, Wild, CELL};
 use crate::screen::LIST;
 
 /// Which fault is put in; 0 is none.
 #[derive(Clone, Copy, Debug, PartialEq, Eq)]
 pub struct Fault(pub usize);
 
-pub const FAULTS: [&str; 41] = [
+pub const FAULTS: [&str; 50] = [
     "row 0's link is taken high byte first",
     "row 24 is never marked",
     "the Z80's private memory ends a byte later",
@@ -56,6 +57,15 @@ pub const FAULTS: [&str; 41] = [
     "row 24 does not show while a run scrolls",
     "a latch over 9 is refused only where there is a run",
     "the last line of the list has scan 11, on both sides",
+    "fill is told ahead of past",
+    "the link is told by the place of its high byte",
+    "a cell's place is not taken modulo 4,096",
+    "a cell's kind is that of the row before, which carries the link",
+    "a dark row is said to have torn itself",
+    "of a dark row the row before the one that tore is named",
+    "a link is said to lead to row 0",
+    "a cell's place is told one too high, on both sides",
+    "a row over 24 or a column over 131 is told ahead of a wrong length: 5, not 1",
 ];
 
 impl Fault {
@@ -80,6 +90,9 @@ impl Fault {
             (27, Call::WritePort { code: 0x09, .. }) => ended_by(model, call),
             (28, Call::ReadShadow { .. }) => out_of_reset(model, call),
             (33..=40, Call::ListLines) => list_fault::call(self.0, model),
+            (42..=48 | 50, Call::Explain { row, column }) => {
+                why_fault::call(self.0, model, *row, *column)
+            }
             _ => self.answer(call, model),
         }
     }
@@ -183,8 +196,12 @@ impl Fault {
 
     /// A fault that both sides have in an answer.
     pub fn answered(self, call: &Call, seen: &mut Seen) {
-        if let (11, Call::StoreWithPicture { .. }, 0) = (self.0, call, seen.refusal) {
-            seen.value |= 1;
+        match (self.0, call) {
+            (11, Call::StoreWithPicture { .. }) if seen.refusal == 0 => seen.value |= 1,
+            (49, Call::Explain { .. }) if seen.explained.answer == CELL => {
+                seen.explained.place = (seen.explained.place + 1) % PLACES as u16;
+            }
+            _ => {}
         }
     }
 }

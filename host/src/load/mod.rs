@@ -3,6 +3,7 @@
 mod aim;
 mod call;
 mod choose;
+mod desk;
 mod fault;
 mod library;
 mod list_fault;
@@ -14,6 +15,8 @@ mod sides;
 mod sweep;
 mod watch_runs;
 mod watch_sweep;
+mod why_fault;
+mod why_sweep;
 mod words;
 mod world;
 
@@ -28,14 +31,15 @@ use crate::machine::Machine;
 use crate::rainbow::{Seen, FUNCTIONS};
 use crate::REFUSALS;
 use call::{Call, Step};
+use desk::Promises;
 use sides::{Sides, Watched};
 use std::thread::spawn;
 use watch_runs::MANNERS;
 use world::World;
 
 /// How many calls there were of each function, how many were answered by each number of refusal, of all and of the
-/// Z80's, how many drawings named each row, how many lists there were of a screen at rest and of one that scrolls, and
-/// what the watchdog did.
+/// Z80's, how many drawings named each row, how many lists there were of a screen at rest and of one that scrolls, how
+/// many cells were explained by each answer, how often the desk's promise was tried, and what the watchdog did.
 #[derive(Default)]
 pub struct Tally {
     pub calls: [u64; FUNCTIONS.len()],
@@ -47,6 +51,9 @@ pub struct Tally {
     pub drawings: [u64; ROWS + 1],
     /// At rest, and scrolled. Refused ones do not count.
     pub lists: [u64; 2],
+    /// By the number of the answer; 0 are the refused ones.
+    pub explained: [u64; 5],
+    pub promises: Promises,
     pub watched: Watched,
 }
 
@@ -73,6 +80,9 @@ impl Tally {
         if let (Call::ListLines, 0) = (call, answer.refusal) {
             self.lists[usize::from(scrolled(list))] += 1;
         }
+        if let Call::Explain { .. } = call {
+            self.explained[usize::from(answer.explained.answer)] += 1;
+        }
     }
 
     fn add(&mut self, other: &Self) {
@@ -86,6 +96,9 @@ impl Tally {
         drawings.for_each(|(sum, drawn)| *sum += drawn);
         let lists = self.lists.iter_mut().zip(other.lists);
         lists.for_each(|(sum, listed)| *sum += listed);
+        let explained = self.explained.iter_mut().zip(other.explained);
+        explained.for_each(|(sum, answers)| *sum += answers);
+        self.promises.add(&other.promises);
         self.watched.add(&other.watched);
     }
 }
@@ -109,7 +122,10 @@ struct Run<'a> {
 
 impl<'a> Run<'a> {
     fn new(chance: &mut Chance, tried: Tried, tally: &'a mut Tally) -> Self {
-        let world = World::any(chance);
+        Self::in_world(World::any(chance), tried, tally)
+    }
+
+    fn in_world(world: World, tried: Tried, tally: &'a mut Tally) -> Self {
         Self {
             world,
             sides: Sides::new(&world, tried),
@@ -130,6 +146,7 @@ impl<'a> Run<'a> {
     fn end(self) -> Result<(), Script> {
         self.sides.compare_all().map_err(|_| self.script())?;
         self.tally.watched.add(&self.sides.watched);
+        self.tally.promises.add(&self.sides.promises);
         Ok(())
     }
 
@@ -142,15 +159,19 @@ impl<'a> Run<'a> {
 /// As many run at once, each on buffers of its own, which the header allows.
 const THREADS: u64 = 2;
 
-/// Where fewer calls than these are asked for, there is less of the whole screen and of the watchdog too: these alone
-/// take some millions.
+/// Where fewer calls than these are asked for, there is less of the whole screen, of the watchdog and of the cells too:
+/// these alone take some millions.
 const WHOLE: u64 = 1_000_000;
+
+/// The screens of which every cell is explained, at both settings, and of each thread at least.
+const SCREENS: usize = 400;
+const LEAST_SCREENS: usize = 4;
 
 /// The ticks of each long run of the watchdog.
 const RUN_TICKS: u64 = 250_000;
 
-/// Makes the calls of the sweeps and those of the watchdog, and then calls by chance. Of the first sweep and by chance
-/// there are so many.
+/// Makes the calls of the sweeps and those of the watchdog, then calls by chance, and then explains every cell of many
+/// screens. Of the first sweep and by chance there are so many.
 pub fn load(calls: u64, seed: u64, tried: Tried) -> Result<Tally, Script> {
     let mut chance = Chance(seed);
     let mut tally = sweep_all(sweep::pieces(), &mut chance, tried)?;
@@ -162,11 +183,18 @@ pub fn load(calls: u64, seed: u64, tried: Tried) -> Result<Tally, Script> {
     let threads: Vec<_> = (1..=THREADS)
         .map(|thread| {
             let seed = seed.rotate_left(16 * thread as u32);
-            spawn(move || by_chance(each, &mut Chance(seed), tried))
+            spawn(move || {
+                let chance = &mut Chance(seed);
+                let mut tally = by_chance(each, chance, tried)?;
+                let screens = (SCREENS / THREADS as usize / every).max(LEAST_SCREENS);
+                tally.add(&why_sweep::screens(screens, chance, tried)?);
+                Ok(tally)
+            })
         })
         .collect();
     for thread in threads {
-        tally.add(&thread.join().expect("a thread that ends")?);
+        let more: Result<Tally, Script> = thread.join().expect("a thread that ends");
+        tally.add(&more?);
     }
     Ok(tally)
 }

@@ -7,7 +7,8 @@ use crate::chain::{self, Drawn, PICTURE};
 use crate::dots;
 use crate::machine::Machine;
 use crate::memories::{self, View8088};
-use crate::rainbow::{self, Seen, Wild};
+use crate::rainbow::{self, Explained, Seen, Wild, CELL, DARK, FILL, PAST};
+use crate::why::{Led, Walk, Why};
 use crate::{mending, refusal, screen, Answer};
 
 #[derive(Clone)]
@@ -22,6 +23,8 @@ pub struct Model {
     pub list: Vec<u8>,
     pub spare: Vec<u8>,
     pub machine: Machine,
+    /// The walk that was asked last, since many cells of it may be asked one after the other.
+    pub walk: Walk,
 }
 
 fn seen<T: TryInto<u64>>(answer: Answer<T>) -> Seen {
@@ -37,6 +40,70 @@ fn seen_drawn(answer: Answer<Drawn>) -> Seen {
     Seen {
         wild: wild.map_or(Wild::default(), Wild::named),
         ..seen(answer.map(|drawn| drawn.reads))
+    }
+}
+
+/// What is said of a cell, as numbers: what an answer does not have is 0.
+fn seen_explained(answer: Answer<Why>) -> Seen {
+    let why = match answer {
+        Ok(why) => why,
+        Err(number) => return Seen::refusal(number),
+    };
+    let none = Explained::default();
+    let (led, explained) = match why {
+        Why::Cell { place, kind, led } => {
+            let (answer, place) = (CELL, place as u16);
+            (
+                led,
+                Explained {
+                    answer,
+                    place,
+                    kind,
+                    ..none
+                },
+            )
+        }
+        Why::Fill { place, led } => {
+            let (answer, place) = (FILL, place as u16);
+            (
+                led,
+                Explained {
+                    answer,
+                    place,
+                    ..none
+                },
+            )
+        }
+        Why::Past { led } => (
+            led,
+            Explained {
+                answer: PAST,
+                ..none
+            },
+        ),
+        Why::Dark { tore } => {
+            let (answer, tore) = (DARK, tore as u8);
+            (
+                Led::Row0,
+                Explained {
+                    answer,
+                    tore,
+                    ..none
+                },
+            )
+        }
+    };
+    let (linked, link) = match led {
+        Led::Row0 => (0, 0),
+        Led::Link(place) => (1, place as u16),
+    };
+    Seen {
+        explained: Explained {
+            linked,
+            link,
+            ..explained
+        },
+        ..Seen::refusal(0)
     }
 }
 
@@ -145,6 +212,7 @@ impl Model {
                 let listed = screen::list_lines(&self.machine, &self.picture, &mut self.list);
                 Seen::refusal(refusal(&listed))
             }
+            Call::Explain { row, column } => seen_explained(self.explain(row, column)),
             Call::ReadShadow { place } => {
                 seen(memories::shadow_read(&self.machine, &self.shadow, place))
             }
@@ -191,6 +259,15 @@ impl Model {
         }
         picture.copy_from_slice(&drawn.picture);
         Ok(drawn)
+    }
+
+    fn explain(&mut self, row: usize, column: usize) -> Answer<Why> {
+        let (screen, attribute) = (&self.view.screen, &self.view.attribute);
+        let columns = self.machine.columns.into();
+        if !self.walk.is_of(screen, attribute, columns) {
+            self.walk = Walk::of(screen, attribute, columns)?;
+        }
+        self.walk.why(row, column)
     }
 
     /// The part as the place that it has in the table.

@@ -1,6 +1,6 @@
 //! Two answers compared, and the model's machine as a library has it.
 use crate::machine::Machine;
-use crate::rainbow::{self, Seen};
+use crate::rainbow::{self, Explained, Seen};
 
 impl Seen {
     /// The first part in which this answer differs from another. `sides` are the names of the other and of this one.
@@ -13,7 +13,22 @@ impl Seen {
             ("wild flag", self.wild.there.into(), other.wild.there.into()),
             ("wild row", self.wild.row.into(), other.wild.row.into()),
         ];
-        let differs = numbers.iter().find(|(_, a, b)| a != b);
+        let names = [
+            "answer",
+            "place",
+            "kind",
+            "row that tore",
+            "link flag",
+            "link",
+        ];
+        let explained = self.explained.numbers().into_iter();
+        let explained = explained.zip(other.explained.numbers());
+        let explained = names
+            .into_iter()
+            .zip(explained)
+            .map(|(name, (a, b))| (name, a, b));
+        let mut numbers = numbers.into_iter().chain(explained);
+        let differs = numbers.find(|(_, a, b)| a != b);
         if let Some((name, mine, theirs)) = differs {
             return Some(format!(
                 "the {name} answered: {that} {theirs:X}, {this} {mine:X}"
@@ -23,6 +38,21 @@ impl Seen {
             let (theirs, mine) = (other.machine, self.machine);
             format!("the machine answered:\n  {that} {theirs:X?}\n  {this} {mine:X?}")
         })
+    }
+}
+
+impl Explained {
+    fn numbers(&self) -> [u64; 6] {
+        let (answer, place) = (self.answer.into(), self.place.into());
+        let (kind, tore) = (self.kind.into(), self.tore.into());
+        [
+            answer,
+            place,
+            kind,
+            tore,
+            self.linked.into(),
+            self.link.into(),
+        ]
     }
 }
 

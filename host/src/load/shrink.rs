@@ -154,14 +154,22 @@ fn plainer_calls(call: &Call) -> Vec<Call> {
                 Call::ScanLine { row, scan: 1 },
             ]
         }
+        Call::Explain { row, column } => {
+            vec![
+                Call::Explain { row: 0, column },
+                Call::Explain { row: 1, column },
+                Call::Explain { row, column: 0 },
+            ]
+        }
         Call::IsMarked { row, .. } => vec![Call::IsMarked { marks: 0, row }],
         Call::AlterPicture { place, .. } => {
             vec![Call::AlterPicture { place, byte: 0 }, Call::Draw]
         }
         Call::StrewPicture { .. } | Call::OtherPicture { .. } => vec![Call::Draw],
-        Call::SetMachine(Machine { latch, .. }) => {
+        Call::SetMachine(Machine { latch, columns, .. }) => {
             let plain = Machine::power_up();
             vec![
+                Call::SetMachine(Machine { columns, ..plain }),
                 Call::SetMachine(Machine { latch, ..plain }),
                 Call::SetMachine(plain),
             ]

@@ -1,5 +1,6 @@
 //! The library and the model side by side, given the same calls, and a second library beside the first.
 use super::call::{Buffer, Call, Step, BUFFERS};
+use super::desk::{Asked, Promise, Promises};
 use super::fault::Fault;
 use super::library::Library;
 use super::model::Model;
@@ -13,6 +14,7 @@ use crate::history::History;
 use crate::machine::Machine;
 use crate::rainbow::{self, Seen};
 use crate::screen::LINES;
+use crate::why::Walk;
 
 /// What is tried: a library beside the model, and a second library beside the first if there is one.
 #[derive(Clone, Copy)]
@@ -32,6 +34,11 @@ pub struct Sides {
     /// What the watchdog must do by the ticks made; there is none after a machine that no run of calls makes.
     history: Option<History>,
     pub watched: Watched,
+    /// The call made last explained a cell.
+    pub asked: Option<Asked>,
+    /// The call made last stored into the place of a cell that was explained just before.
+    promise: Option<Promise>,
+    pub promises: Promises,
     fault: Fault,
     before: Vec<u8>,
 }
@@ -75,6 +82,9 @@ impl Sides {
             model,
             kept: false,
             watched: Watched::default(),
+            asked: None,
+            promise: None,
+            promises: Promises::default(),
             fault: tried.fault,
             before: vec![0; PICTURE],
         }
@@ -98,6 +108,7 @@ impl Sides {
             let picture = self.library.content(Buffer::Picture);
             self.before.copy_from_slice(picture);
         }
+        let promise = self.promise_of(step);
         let reset = self.library.machine.reset;
         let mut model = self.model.call(step, self.fault);
         let mut library = self.library.call(step)?;
@@ -112,6 +123,9 @@ impl Sides {
         self.beside(step, &library)?;
         self.demands(&step.call, &library)?;
         self.by_ticks(step, &library)?;
+        self.keeps_promise(&step.call, &library)?;
+        self.asked = Asked::of(&step.call, &library);
+        self.promise = promise.filter(|_| library.refusal == 0);
         if let Call::WatchdogTick { .. } = step.call {
             self.watched.count(reset, self.library.machine.reset);
         }
@@ -234,7 +248,34 @@ impl Sides {
         Ok(())
     }
 
+    /// The desk's promise, if the step is a store that makes one: the picture is a fresh one now.
+    fn promise_of(&self, step: &Step) -> Option<Promise> {
+        let stores = matches!(step.call, Call::StoreWithPicture { .. }) && step.whole();
+        let asked = self.asked.filter(|_| stores && self.kept)?;
+        let [screen, attribute, picture] = [Buffer::Screen, Buffer::Attribute, Buffer::Picture]
+            .map(|buffer| self.library.content(buffer));
+        let columns = self.model.machine.columns.into();
+        let walk = Walk::of(screen, attribute, columns).ok()?;
+        Promise::of(asked, &step.call, &walk, picture)
+    }
+
+    /// The next call is to be a drawing into the second picture, by which it is seen whether the promise was kept.
+    pub fn has_promise(&self) -> bool {
+        self.promise.is_some()
+    }
+
+    fn keeps_promise(&mut self, call: &Call, seen: &Seen) -> Result<(), Differs> {
+        match (self.promise.take(), call, seen.refusal) {
+            (Some(promise), Call::DrawAfresh, 0) => {
+                let fresh = self.library.content(Buffer::Spare);
+                promise.is_kept(fresh, &mut self.promises)
+            }
+            _ => Ok(()),
+        }
+    }
+
     fn by_hand(&mut self, call: &Call) {
+        (self.asked, self.promise) = (None, None);
         if let Call::SetMachine(machine) = call {
             return self.set_machine(machine);
         }

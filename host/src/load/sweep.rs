@@ -1,7 +1,7 @@
 //! Every port, code, edge, row, scan and place once, before calls are chosen by chance.
 use super::aim::EDGES;
 use super::call::{Call, Step, WRONG_LENGTHS};
-use crate::chain::ROWS;
+use crate::chain::{PAIRS, ROWS};
 use crate::dots::SCANS;
 use crate::machine::Machine;
 use crate::memories::SHADOW;
@@ -18,6 +18,7 @@ pub fn pieces() -> Vec<Vec<Step>> {
         places(),
         lines(),
         marks(),
+        cells(),
         in_reset(),
     ];
     let mut all: Vec<Vec<Step>> = pieces
@@ -149,6 +150,21 @@ fn marks() -> Vec<Call> {
     all.into_iter().flat_map(of_marks).collect()
 }
 
+/// Rows and columns that are there and that are not, at both settings.
+fn cells() -> Vec<Call> {
+    let mut calls = Vec::new();
+    let huge = [255, 256, 1 << 16, 1 << 32, usize::MAX - 1, usize::MAX];
+    for code in [0x00, 0x10] {
+        calls.push(Call::WritePort { port: 0x04, code });
+        for row in (0..=ROWS + 1).chain(huge) {
+            let ends = [0, 1, 39, 40, 65, 66, 79, 80, PAIRS - 1, PAIRS, PAIRS + 1];
+            let columns = ends.into_iter().chain(huge);
+            calls.extend(columns.map(|column| Call::Explain { row, column }));
+        }
+    }
+    calls
+}
+
 /// In reset: every access of the 8088, with what 2 to 6 refuse too, and then what goes on, the Z80 held and running.
 fn in_reset() -> Vec<Call> {
     let mut calls = Vec::new();
@@ -175,6 +191,9 @@ fn in_reset() -> Vec<Call> {
             calls.push(Call::ScanLine { row, scan });
         }
         calls.extend([Call::ListLines, Call::GlyphPart { code: 0x41 }]);
+        for (row, column) in [(0, 0), (ROWS, 0), (0, PAIRS)] {
+            calls.push(Call::Explain { row, column });
+        }
         calls.extend([Call::Columns, Call::Z80Runs, Call::Blanked, Call::Graphics]);
         calls.extend([Call::ScrollLatch, Call::DotsOfLine]);
         calls.extend([Call::PowerUp, Call::Version]);
@@ -212,6 +231,11 @@ fn lengths() -> Vec<Step> {
         Call::GlyphPart { code: 0x41 },
         Call::ScanLine { row: 0, scan: 1 },
         Call::ListLines,
+        Call::Explain { row: 0, column: 0 },
+        Call::Explain {
+            row: ROWS,
+            column: PAIRS,
+        },
     ];
     let mut steps = Vec::new();
     for (held, latch) in [(0x00, 0x09), (0x01, 0x0A)] {

@@ -21,6 +21,7 @@ pub fn numbers(call: &Call) -> Vec<(&'static str, u64)> {
         Call::IsMarked { marks, row } => vec![("marks", marks.into()), ("row", row as u64)],
         Call::GlyphPart { code } => vec![("code", code.into())],
         Call::ScanLine { row, scan } => vec![("row", row as u64), ("scan", scan as u64)],
+        Call::Explain { row, column } => vec![("row", row as u64), ("column", column as u64)],
         Call::AlterPicture { place, byte } => {
             vec![("place", place as u64), ("byte", byte.into())]
         }

@@ -7,6 +7,7 @@ use crate::machine::Machine;
 use crate::memories::{View8088, NVM, PRIVATE, SHADOW, SHARED};
 use crate::sample::herd_book;
 use crate::screen::LIST;
+use crate::why::Walk;
 
 /// What the chain of a world is like.
 #[derive(Clone, Copy, Debug, PartialEq, Eq)]
@@ -228,9 +229,17 @@ pub fn machine(chance: &mut Chance) -> Machine {
 
 impl World {
     pub fn any(chance: &mut Chance) -> Self {
+        let world = Self::of(chance, Kind::Hard);
+        Self {
+            kind: chance.of(&KINDS),
+            ..world
+        }
+    }
+
+    pub fn of(chance: &mut Chance, kind: Kind) -> Self {
         Self {
             seed: (chance.below(u32::MAX as usize) as u64) << 16 | 1,
-            kind: chance.of(&KINDS),
+            kind,
         }
     }
 
@@ -255,6 +264,7 @@ impl World {
             list: strewn(chance, LIST),
             spare: strewn(chance, PICTURE),
             machine,
+            walk: Walk::default(),
         }
     }
 }

@@ -5,7 +5,7 @@ use crate::memories::{ATTRIBUTE, NVM, PRIVATE, SCREEN, SHADOW, SHARED};
 use crate::screen::LIST;
 
 /// The forms, in the order that `help` has.
-pub const FORMS: [&str; 31] = [
+pub const FORMS: [&str; 32] = [
     "store HHHHHHHH HH",
     "blind HHHHHHHH HH",
     "read HHHHHHHH",
@@ -18,6 +18,7 @@ pub const FORMS: [&str; 31] = [
     "shadow read DDDDD",
     "draw",
     "marked HHHHHHHH DDDDD",
+    "why DDDDD DDDDD",
     "line DDDDD DDDDD",
     "lines",
     "glyph HH",
@@ -144,6 +145,8 @@ mod tests {
         assert_eq!(call("z80 read 07fF"), Some(vec![0x7FF]));
         assert_eq!(call("shadow read 99999"), Some(vec![99999]));
         assert_eq!(call("shadow read 00001"), Some(vec![1]));
+        assert_eq!(call("why 24 131"), Some(vec![24, 131]));
+        assert_eq!(call("why 00000 99999"), Some(vec![0, 99999]));
         assert_eq!(call("watch 128"), Some(vec![128]));
         assert_eq!(call("watch 99999"), Some(vec![99999]));
         for bad in [
@@ -159,6 +162,10 @@ mod tests {
             "shadow read 1A",
             "watch 100000",
             "watch 7F",
+            "why 1A 0",
+            "why 0 100000",
+            "why 0",
+            "why 0 0 132",
             "glyph 041",
         ] {
             assert_eq!(call(bad), None, "{bad}");
@@ -269,5 +276,6 @@ mod tests {
         assert_eq!(understood(b"help me"), Line::Bad(vec!["help"]));
         assert_eq!(understood(b"line"), Line::Bad(vec!["line DDDDD DDDDD"]));
         assert_eq!(understood(b"lines 1"), Line::Bad(vec!["lines"]));
+        assert_eq!(understood(b"why 1"), Line::Bad(vec!["why DDDDD DDDDD"]));
     }
 }

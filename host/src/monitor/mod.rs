@@ -75,6 +75,10 @@ mod tests {
         assert_eq!(shown::refused("port HHHH HH", 6), both);
         let reset = "refused 8, byte 00: the 8088 is in reset";
         assert_eq!(shown::refused("shadow read DDDDD", 8), reset);
+        let place = "refused 5: no such row, column, scan or place";
+        assert_eq!(shown::refused("line DDDDD DDDDD", 5), place);
+        let why = "refused 5, as numbers 0 0000 0 0 0 0000: no such row, column, scan or place";
+        assert_eq!(shown::refused("why DDDDD DDDDD", 5), why);
         let latch = "refused 9: the scroll latch is over 9";
         assert_eq!(shown::refused("lines", 9), latch);
         let other = "refused 10, byte 00: a refusal that the monitor does not know";
@@ -278,6 +282,88 @@ mod tests {
         for (line, begins) in lines {
             let answer = String::from_utf8(session.answer(line.as_bytes())).unwrap();
             assert!(answer.starts_with(&begins), "{line}: {answer}");
+        }
+    }
+
+    /// 02, ticket 6: "a cell, with the place that holds it and the kind of its row; fill, with the place of the FF that
+    /// ended the row; past the row's capacity; dark, with the row that tore; and, for all but the dark, the place of
+    /// the low link byte that led to the row, or that it is row 0".
+    #[test]
+    fn why_a_cell_shows_what_it_shows() {
+        let lines: [(&str, &str); 26] = [
+            (
+                "why 0 79",
+                "cell, place 004F, kind 3, row 0, as numbers 1 004F 3 0 0 0000\n",
+            ),
+            ("why 0 80", "past, row 0, as numbers 3 0000 0 0 0 0000\n"),
+            (
+                "why 24 131",
+                "dark, row 0 tore, as numbers 4 0000 0 0 0 0000\n",
+            ),
+            (
+                "why 25 0",
+                "refused 5, as numbers 0 0000 0 0 0 0000: no such row, column, scan or place\n",
+            ),
+            (
+                "why 0 132",
+                "refused 5, as numbers 0 0000 0 0 0 0000: no such row, column, scan or place\n",
+            ),
+            ("put screen 5 FF", "put\n"),
+            ("put screen 6 FE", "put\n"),
+            ("put screen 7 0F", "put\n"),
+            ("put attribute 6 02", "put\n"),
+            (
+                "why 0 5",
+                "fill, place 0005, row 0, as numbers 2 0005 0 0 0 0000\n",
+            ),
+            (
+                "why 1 1",
+                "cell, place 0FFF, kind 2, link at 0006, as numbers 1 0FFF 2 0 1 0006\n",
+            ),
+            (
+                "why 1 2",
+                "cell, place 0000, kind 2, link at 0006, as numbers 1 0000 2 0 1 0006\n",
+            ),
+            (
+                "why 1 39",
+                "fill, place 0005, link at 0006, as numbers 2 0005 0 0 1 0006\n",
+            ),
+            (
+                "why 1 40",
+                "past, link at 0006, as numbers 3 0000 0 0 1 0006\n",
+            ),
+            ("port 04 10", "written: 132 columns"),
+            (
+                "why 1 65",
+                "fill, place 0005, link at 0006, as numbers 2 0005 0 0 1 0006\n",
+            ),
+            (
+                "why 1 66",
+                "past, link at 0006, as numbers 3 0000 0 0 1 0006\n",
+            ),
+            ("lend screen 4095", "lent\n"),
+            (
+                "why 25 0",
+                "refused 1, as numbers 0 0000 0 0 0 0000: a memory lent at another length",
+            ),
+            ("lend screen 4096", "lent\n"),
+            ("lend attribute 4097", "lent\n"),
+            (
+                "why 0 0",
+                "refused 1, as numbers 0 0000 0 0 0 0000: a memory lent at another length",
+            ),
+            ("lend attribute 4096", "lent\n"),
+            ("count 0 1", "counted: 132 columns"),
+            (
+                "why 0 4",
+                "cell, place 0004, kind 3, row 0, as numbers 1 0004 3 0 0 0000\n",
+            ),
+            ("why 1", "expected why DDDDD DDDDD\n"),
+        ];
+        let mut session = Session::power_up();
+        for (line, begins) in lines {
+            let answer = String::from_utf8(session.answer(line.as_bytes())).unwrap();
+            assert!(answer.starts_with(begins), "{line}: {answer}");
         }
     }
 

@@ -8,6 +8,7 @@ use crate::machine::Machine;
 use crate::memories::{self, View8088};
 use crate::mending;
 use crate::screen;
+use crate::why;
 use crate::Answer;
 
 const SHARED: usize = 0;
@@ -162,6 +163,7 @@ impl Session {
             "shadow read DDDDD" => {
                 memories::shadow_read(&self.machine, self.lent(SHADOW), place).map(reads)
             }
+            "why DDDDD DDDDD" => self.why(place, second),
             "line DDDDD DDDDD" => self.line(place, second),
             "marked" => Ok(shown::marked(first, second)),
             "latch" => {
@@ -203,6 +205,12 @@ impl Session {
         self.put_back(SHADOW, &shadow);
         self.put_back(NVM, &nvm);
         Ok(format!("written: {}", shown::machine(&self.machine)))
+    }
+
+    fn why(&self, row: usize, column: usize) -> Answer<String> {
+        let (screen, attribute) = (self.lent(SCREEN), self.lent(ATTRIBUTE));
+        let why = why::explain(screen, attribute, self.columns(), row, column)?;
+        Ok(shown::why(&why))
     }
 
     fn line(&mut self, row: usize, scan: usize) -> Answer<String> {

@@ -3,6 +3,7 @@ use super::lines::{FORMS, NAMES};
 use crate::chain::{Drawn, RECORD};
 use crate::machine::Machine;
 use crate::trial::summed;
+use crate::why::{Led, Why};
 
 /// A refused call of a form. "A refusal returns its number, with byte read, marks, read count and all other numbers 0,
 /// no row named".
@@ -11,6 +12,7 @@ pub fn refused(form: &str, number: u8) -> String {
         "read" | "z80 read" | "shadow read DDDDD" => ", byte 00",
         "store" => ", marks 00000000",
         "draw" => ", bytes read 0, no wild row named",
+        "why DDDDD DDDDD" => ", as numbers 0 0000 0 0 0 0000",
         _ => "",
     };
     let words = match number {
@@ -18,7 +20,7 @@ pub fn refused(form: &str, number: u8) -> String {
         2 => "the 8088 sees no memory at this address",
         3 => "the port is none of 04, 0A, 0C, 10C",
         4 => "the port has no such code",
-        5 => "no such row, scan or place",
+        5 => "no such row, column, scan or place",
         6 => "bits 6 and 7 both rise",
         7 => "the Z80 is held in reset",
         8 => "the 8088 is in reset",
@@ -72,6 +74,32 @@ pub fn marked(marks: u32, row: usize) -> String {
         _ => "not marked",
     };
     word.to_string()
+}
+
+/// Why a cell shows what it shows: places in hexadecimal, all other numbers in decimal. Then the numbers of
+/// rainbow_explained: the answer, the place, the kind, the row that tore, and the link with a flag ahead of it; what the
+/// answer does not have is 0.
+pub fn why(why: &Why) -> String {
+    let (said, numbers, led) = match why {
+        Why::Cell { place, kind, led } => (
+            format!("cell, place {place:04X}, kind {kind}"),
+            format!("1 {place:04X} {kind} 0"),
+            led,
+        ),
+        Why::Fill { place, led } => (
+            format!("fill, place {place:04X}"),
+            format!("2 {place:04X} 0 0"),
+            led,
+        ),
+        Why::Past { led } => ("past".to_string(), "3 0000 0 0".to_string(), led),
+        Why::Dark { tore } => {
+            return format!("dark, row {tore} tore, as numbers 4 0000 0 {tore} 0 0000")
+        }
+    };
+    match led {
+        Led::Row0 => format!("{said}, row 0, as numbers {numbers} 0 0000"),
+        Led::Link(low) => format!("{said}, link at {low:04X}, as numbers {numbers} 1 {low:04X}"),
+    }
 }
 
 /// A word and then bytes.

@@ -4,6 +4,7 @@ pub mod build;
 pub mod changes;
 pub mod equivalent;
 pub mod noticed;
+pub mod questions;
 pub mod rules;
 
 use crate::rattle::code;

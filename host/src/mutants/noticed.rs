@@ -50,12 +50,24 @@ impl Run {
         })
     }
 
-    /// The last remark ahead of a place of the output: the case that it is in.
+    /// A run that is not stored, with its input in a file.
+    pub fn made(program: &str, arguments: &[&str], input: &Path, expected: String) -> Run {
+        Run {
+            program: program.to_string(),
+            arguments: arguments.iter().map(|word| word.to_string()).collect(),
+            input: Some(input.to_path_buf()),
+            folder: input.parent().unwrap_or(Path::new(".")).to_path_buf(),
+            expected: expected.into_bytes(),
+        }
+    }
+
+    /// The last remark ahead of a place of the output: the case that it is in. Where there is none, the arguments.
     fn case(&self, at: usize) -> String {
         let written =
             String::from_utf8_lossy(&self.expected[..at.min(self.expected.len())]).into_owned();
         let remark = written.lines().rfind(|line| line.starts_with('#'));
-        format!("{} {}", self.program, remark.unwrap_or(""))
+        let words = self.arguments.join(" ");
+        format!("{} {}", self.program, remark.unwrap_or(&words))
     }
 
     /// Runs a program in the place of this one; what is noticed, if anything.

@@ -12,7 +12,7 @@ use std::io;
 use std::path::{Path, PathBuf};
 
 /// The package has these crates and all that they are made of.
-const CRATES: [&str; 4] = ["rainbow", "rows", "tube", "monitor"];
+const CRATES: [&str; 5] = ["rainbow", "rows", "tube", "why", "monitor"];
 /// Those that have no call and no constant for a user.
 const INNER: [&str; 5] = ["dc011", "dc012", "diagnostic", "readers", "dots"];
 /// Those that are of use to the programs alone.

@@ -1,6 +1,6 @@
 //! A shared object: its functions by their names of C, and a call of each. Rust's own rules keep what the header asks
 //! of its caller: a slice is one buffer with its length, and one that may change overlaps no other.
-use super::{Lent, Machine, Request, Seen, Wild, FUNCTIONS};
+use super::{Explained, Lent, Machine, Request, Seen, Wild, FUNCTIONS};
 use std::ffi::{c_void, CStr, CString};
 use std::os::raw::{c_char, c_int};
 use std::ptr::null_mut;
@@ -38,6 +38,17 @@ struct Drawn {
 struct Stored {
     refusal: u8,
     marks: u32,
+}
+
+#[repr(C)]
+struct Why {
+    refusal: u8,
+    answer: u8,
+    place: u16,
+    kind: u8,
+    tore: u8,
+    linked: u8,
+    link: u16,
 }
 
 #[repr(C)]
@@ -200,6 +211,21 @@ unsafe fn lending(
         "list_lines" => {
             let call = of!(at, (Machine, In, usize, Out, usize) -> u8);
             Seen::refusal(call(machine, a, a_len, b, b_len))
+        }
+        "explain" => {
+            let call = of!(at, (Machine, In, usize, In, usize, usize, usize) -> Why);
+            let why = call(machine, a, a_len, b, b_len, m as usize, n as usize);
+            Seen {
+                explained: Explained {
+                    answer: why.answer,
+                    place: why.place,
+                    kind: why.kind,
+                    tore: why.tore,
+                    linked: why.linked,
+                    link: why.link,
+                },
+                ..Seen::refusal(why.refusal)
+            }
         }
         _ => unreachable!("no function {name}"),
     }

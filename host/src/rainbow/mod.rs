@@ -24,7 +24,7 @@ pub struct Machine {
 }
 
 /// The functions of the header, without `rainbow_`. host/serve.c has the same numbers.
-pub const FUNCTIONS: [&str; 23] = [
+pub const FUNCTIONS: [&str; 24] = [
     "version",
     "power_up",
     "vertical_tick",
@@ -48,11 +48,12 @@ pub const FUNCTIONS: [&str; 23] = [
     "glyph_part",
     "scan_line",
     "list_lines",
+    "explain",
 ];
 
 /// An answer. `value` is the one number that the call gives: the byte, the reads, the marks, the place, the
 /// columns, the dots, the version, or 1 for true. Only a glyph part has a length, only a drawing has what it says of a
-/// wild link, and only some calls have a machine.
+/// wild link, only what explains a cell has what it says of it, and only some calls have a machine.
 #[derive(Clone, Copy, Debug, Default, PartialEq, Eq)]
 pub struct Seen {
     pub refusal: u8,
@@ -60,6 +61,7 @@ pub struct Seen {
     pub length: u64,
     pub machine: Machine,
     pub wild: Wild,
+    pub explained: Explained,
 }
 
 /// What a drawing says of the first wild link: whether there is one, a byte as a bool of the machine is, and its row.
@@ -68,6 +70,23 @@ pub struct Wild {
     pub there: u8,
     pub row: u8,
 }
+
+/// What is said of a cell. `linked` is a byte as a bool of the machine is.
+#[derive(Clone, Copy, Debug, Default, PartialEq, Eq)]
+pub struct Explained {
+    pub answer: u8,
+    pub place: u16,
+    pub kind: u8,
+    pub tore: u8,
+    pub linked: u8,
+    pub link: u16,
+}
+
+/// RAINBOW_WHY_CELL and the other answers of the header.
+pub const CELL: u8 = 1;
+pub const FILL: u8 = 2;
+pub const PAST: u8 = 3;
+pub const DARK: u8 = 4;
 
 /// A buffer that is lent; NULL with length 0 if there is none.
 pub type Lent<'a> = Option<&'a mut [u8]>;

@@ -1,6 +1,6 @@
 //! A library in a process of its own: host/serve.c, which is sent a call with the bytes that it is lent, makes it, and
 //! sends back the answer and those bytes. Each thread has a process.
-use super::{Machine, Request, Seen, Wild};
+use super::{Explained, Machine, Request, Seen, Wild};
 use std::cell::RefCell;
 use std::collections::HashMap;
 use std::io::{self, Read, Write};
@@ -57,7 +57,7 @@ impl Process {
             sent.extend(bytes);
         }
         self.to.write_all(&sent)?;
-        let mut answer = [0; 30];
+        let mut answer = [0; 38];
         self.from.read_exact(&mut answer)?;
         for bytes in request.lent.into_iter().flatten() {
             self.from.read_exact(bytes)?;
@@ -67,6 +67,7 @@ impl Process {
             bytes.copy_from_slice(&answer[at..at + 8]);
             u64::from_le_bytes(bytes)
         };
+        let place = |at: usize| u16::from_le_bytes([answer[at], answer[at + 1]]);
         Ok(Seen {
             refusal: answer[0],
             value: number(1),
@@ -75,6 +76,14 @@ impl Process {
             wild: Wild {
                 there: answer[28],
                 row: answer[29],
+            },
+            explained: Explained {
+                answer: answer[30],
+                place: place(31),
+                kind: answer[33],
+                tore: answer[34],
+                linked: answer[35],
+                link: place(36),
             },
         })
     }

@@ -1,5 +1,6 @@
 //! Every call with each of its memories lent too short and too long.
 use super::{Script, ROWS};
+use crate::chain::PAIRS;
 use crate::monitor::lines::NAMES;
 
 /// What is called, the memories that it is lent, a line that is accepted and one that is not.
@@ -69,9 +70,9 @@ const CALLS: [Tried<'static>; 11] = [
     ("the part of a code", &["glyphs"], "glyph 00", "glyph FF"),
 ];
 
-/// The calls with the three that make a picture's dots; one is refused at a row past the last.
-fn calls(past: &str) -> Vec<Tried<'_>> {
-    let drawing: [Tried; 3] = [
+/// The calls with those that show a picture; two are refused at a row past the last, for which they have these lines.
+fn calls<'a>([scan_past, why_past]: [&'a str; 2]) -> Vec<Tried<'a>> {
+    let drawing: [Tried; 4] = [
         (
             "the drawing call",
             &["screen", "attribute", "picture"],
@@ -82,13 +83,19 @@ fn calls(past: &str) -> Vec<Tried<'_>> {
             "the scan line call",
             &["picture", "glyphs", "line"],
             "line 0 1",
-            past,
+            scan_past,
         ),
         (
             "the list of the whole screen",
             &["picture", "lines"],
             "lines",
             "lines",
+        ),
+        (
+            "what explains a cell",
+            &["screen", "attribute"],
+            "why 0 0",
+            why_past,
         ),
     ];
     CALLS.into_iter().chain(drawing).collect()
@@ -103,8 +110,9 @@ pub fn script() -> Script {
     for (seed, (name, _)) in NAMES.iter().enumerate() {
         script.line(&format!("strew {name} {} 20 256", 400 + seed));
     }
-    let past = format!("line {ROWS} 0");
-    for (call, memories, right, wrong) in calls(&past) {
+    let past = [format!("line {ROWS} 0"), format!("why {ROWS} {PAIRS}")];
+    let past = past.each_ref().map(String::as_str);
+    for (call, memories, right, wrong) in calls(past) {
         script.remark(&format!("By {call}: {}.", memories.join(", ")));
         script.line("sums");
         for name in memories {
@@ -150,24 +158,30 @@ pub fn script() -> Script {
         "lend lines 0",
     ]);
     script.lines(&["draw", "read EE000", "blind EE000 41", "store EE000 42"]);
-    script.lines(&["shadow write 0 05", "shadow read 0", "power"]);
+    script.lines(&["why 0 0", "shadow write 0 05", "shadow read 0", "power"]);
     script.lines(&["lend shared 0", "lend private 0", "lend nvm 0", "draw"]);
     script.lines(&["lend picture 0", "glyph 41", "power", "lend picture 0"]);
-    script.lines(&["read EE000", "blind EE000 43", "power", "lend screen 0"]);
+    script.lines(&[
+        "why 0 0",
+        "read EE000",
+        "blind EE000 43",
+        "power",
+        "lend screen 0",
+    ]);
     script.lines(&["lend attribute 0", "port 0A 01"]);
     script.lines(&["z80 read 0800", "line 0 1", "lend glyphs 0"]);
     script.lines(&["lend line 0", "lines"]);
     script.remark("Lent at their own lengths, each is accepted, or refused by the next number.");
     script.lines(&["power", "z80 read 0000", "z80 store 0000 41"]);
     script.line("port 0A 03");
-    for (_, _, right, wrong) in calls(&past) {
+    for (_, _, right, wrong) in calls(past) {
         script.lines(&[right, wrong]);
     }
     script.lines(&["sums", "machine"]);
     script.remark("The same while the 8088 is in reset: its own are refused by 8, and no other.");
     script.line("port 0A 03");
     reset(&mut script);
-    for (_, _, right, wrong) in calls(&past) {
+    for (_, _, right, wrong) in calls(past) {
         script.lines(&[right, wrong]);
     }
     out_of_reset(&mut script);

@@ -1,5 +1,6 @@
 //! A run of calls of both processors and of the ports, with one picture kept.
-use super::Script;
+use super::{Script, ROWS};
+use crate::chain::PAIRS;
 
 const TURNS: usize = 320;
 
@@ -7,7 +8,7 @@ pub fn script() -> Script {
     let mut script = Script::new(
         5,
         "A RUN. Stores by both processors, the Z80 held or running, ticks, writes to ports, refused ones \
-         too; one picture kept. The lines of the whole screen now and then.",
+         too; one picture kept. Now and then the lines of the whole screen, and why cells show what they show.",
     );
     script.lines(&["fill shadow 11", "fill nvm EE", "strew screen 51 40 17"]);
     script.lines(&["strew attribute 52 30 256", "draw"]);
@@ -21,6 +22,7 @@ pub fn script() -> Script {
         if turn % 20 == 0 {
             script.compare();
             script.line("lines");
+            why(&mut script, turn / 20);
         }
     }
     script.lines(&["machine", "rows"]);
@@ -42,6 +44,13 @@ fn z80(script: &mut Script) {
         0 => script.line(&format!("z80 read {address:04X}")),
         _ => script.line(&format!("z80 store {address:04X} {:02X}", m & 255)),
     };
+}
+
+/// Cells here and there, in rows further and further down.
+fn why(script: &mut Script, time: usize) {
+    for (row, column) in [(time % 3, 5 * time), (time, 17 * time), (8 + time, 41)] {
+        script.line(&format!("why {} {}", row % ROWS, column % PAIRS));
+    }
 }
 
 fn shadow(script: &mut Script) {

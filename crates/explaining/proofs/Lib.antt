@@ -1,0 +1,4 @@
+pub mod Laws
+pub mod Pairs
+pub mod Shown
+pub mod Desk
