@@ -28,6 +28,11 @@ typedef uint8_t scan_line_call(rainbow_machine, const uint8_t *, size_t, const u
 typedef uint8_t list_lines_call(rainbow_machine, const uint8_t *, size_t, uint8_t *, size_t);
 typedef rainbow_explained explain_call(rainbow_machine, const uint8_t *, size_t, const uint8_t *, size_t, size_t,
                                        size_t);
+typedef rainbow_asked ask_call(rainbow_viewers, size_t);
+typedef rainbow_drawn_for_viewers draw_for_call(rainbow_machine, rainbow_viewers, const uint8_t *, size_t,
+                                                const uint8_t *, size_t, uint8_t *, size_t);
+typedef rainbow_stored_for_viewers store_for_call(rainbow_machine, rainbow_viewers, uint8_t *, size_t, uint8_t *,
+                                                  size_t, uint8_t *, size_t, uint8_t *, size_t, uint32_t, uint8_t);
 
 typedef struct {
     const char *name;
@@ -37,6 +42,9 @@ typedef struct {
     scan_line_call *scan_line;
     list_lines_call *list_lines;
     explain_call *explain;
+    ask_call *ask;
+    draw_for_call *draw_for;
+    store_for_call *store_for;
 } side;
 
 #ifdef WITH_KIT
@@ -46,6 +54,9 @@ store_only_call kit_rainbow_store_8088;
 scan_line_call kit_rainbow_scan_line;
 list_lines_call kit_rainbow_list_lines;
 explain_call kit_rainbow_explain;
+ask_call kit_rainbow_ask;
+draw_for_call kit_rainbow_draw_for_viewers;
+store_for_call kit_rainbow_store_for_viewers;
 #endif
 #ifdef WITH_CLANG
 draw_call clang_best_draw;
@@ -53,21 +64,28 @@ store_call clang_best_store_with_picture;
 scan_line_call clang_best_scan_line;
 list_lines_call clang_best_list_lines;
 explain_call clang_best_explain;
+ask_call clang_best_ask;
+draw_for_call clang_best_draw_for_viewers;
+store_for_call clang_best_store_for_viewers;
 #endif
 
 /* The first side is the one that the others are compared with. */
 static const side sides[] = {
     {"rustc", rainbow_draw, rainbow_store_with_picture, rainbow_store_8088, rainbow_scan_line, rainbow_list_lines,
-     rainbow_explain},
+     rainbow_explain, rainbow_ask, rainbow_draw_for_viewers, rainbow_store_for_viewers},
 #ifdef WITH_KIT
     {"kit", kit_rainbow_draw, kit_rainbow_store_with_picture, kit_rainbow_store_8088, kit_rainbow_scan_line,
-     kit_rainbow_list_lines, kit_rainbow_explain},
+     kit_rainbow_list_lines, kit_rainbow_explain, kit_rainbow_ask, kit_rainbow_draw_for_viewers,
+     kit_rainbow_store_for_viewers},
 #endif
-    {"plain", plain_draw, plain_store_with_picture, plain_store_8088, plain_scan_line, plain_list_lines, plain_explain},
-    {"best", best_draw, best_store_with_picture, plain_store_8088, best_scan_line, best_list_lines, best_explain},
+    {"plain", plain_draw, plain_store_with_picture, plain_store_8088, plain_scan_line, plain_list_lines, plain_explain,
+     plain_ask, plain_draw_for_viewers, plain_store_for_viewers},
+    {"best", best_draw, best_store_with_picture, plain_store_8088, best_scan_line, best_list_lines, best_explain,
+     best_ask, best_draw_for_viewers, best_store_for_viewers},
 #ifdef WITH_CLANG
     {"best-clang", clang_best_draw, clang_best_store_with_picture, plain_store_8088, clang_best_scan_line,
-     clang_best_list_lines, clang_best_explain},
+     clang_best_list_lines, clang_best_explain, clang_best_ask, clang_best_draw_for_viewers,
+     clang_best_store_for_viewers},
 #endif
 };
 
@@ -95,6 +113,7 @@ static void find_room(unsigned batch) {
 #define LIST lines, RAINBOW_LIST_BYTES
 
 static rainbow_machine machine;
+static rainbow_viewers viewers;
 static volatile uint32_t answers; /* what the calls answered, so that none is left out and both sides can be compared */
 
 /* The screens, each at 80 or 132 columns and with rows of a kind, but for row 0, which is normal and does not scroll.
@@ -159,6 +178,7 @@ static void lay(layout screens, unsigned wanted, uint8_t kind, uint8_t latch) {
     for (unsigned at = 0; at < RAINBOW_GLYPH_BYTES; at++)
         table[at] = (uint8_t)((at * 2654435761u) >> 13);
     rainbow_draw(machine, SCREEN, ATTRIBUTE, PICTURE);
+    viewers = rainbow_start_viewers();
 }
 
 static void draw(const side *with) {
@@ -248,6 +268,39 @@ static void explain_row_0(const side *with) { explain_cell(with, 0, 40); }
 static void explain_row_12(const side *with) { explain_cell(with, 12, 40); }
 static void explain_row_24(const side *with) { explain_cell(with, 24, 40); }
 
+/* The same stores, with the viewers kept. */
+static void serve_in_turn(const side *with, unsigned at) {
+    uint8_t byte = screen[at] == 'A' ? 'B' : 'A';
+    rainbow_stored_for_viewers served =
+        with->store_for(machine, viewers, SHARED, SCREEN, ATTRIBUTE, PICTURE, 0xEE000 + at, byte);
+    viewers = served.viewers;
+    answers = answers * 31 + served.stored.marks;
+}
+
+static void serve_unread(const side *with) { serve_in_turn(with, 4000); }
+static void serve_row_0(const side *with) { serve_in_turn(with, start_of[0] + 40); }
+static void serve_row_12(const side *with) { serve_in_turn(with, start_of[12] + 40); }
+static void serve_row_23(const side *with) { serve_in_turn(with, start_of[23] + 40); }
+
+static void serve_draw(const side *with) {
+    rainbow_drawn_for_viewers served = with->draw_for(machine, viewers, SCREEN, ATTRIBUTE, PICTURE);
+    viewers = served.viewers;
+    answers = answers * 31 + (served.drawn.reads * 32u + served.drawn.wild_row) * 2u + served.drawn.wild;
+}
+
+static void ask_viewer(const side *with, size_t viewer) {
+    rainbow_asked asked = with->ask(viewers, viewer);
+    viewers = asked.viewers;
+    answers = answers * 31 + asked.marks * 16 + asked.refusal;
+}
+
+/* Two rows wait for viewer 5 each time. */
+static void ask(const side *with) {
+    static const rainbow_viewers told = {{0, 2, 0, 0, 4, 6, 0, 6}};
+    rainbow_asked asked = with->ask(told, 5);
+    answers = answers * 31 + asked.marks * 16 + asked.viewers.waiting[4] + asked.viewers.waiting[5];
+}
+
 static const struct job {
     const char *name;
     layout screens;
@@ -294,6 +347,12 @@ static const struct job {
     {"explain-row-12", FULL, 80, 3, 0, explain_row_12},
     {"explain-row-24", FULL, 80, 3, 0, explain_row_24},
     {"explain-row-24-132", FULL, 132, 3, 0, explain_row_24},
+    {"viewers-unread", FULL, 80, 3, 0, serve_unread},
+    {"viewers-row-0", FULL, 80, 3, 0, serve_row_0},
+    {"viewers-row-12", FULL, 80, 3, 0, serve_row_12},
+    {"viewers-row-23", FULL, 80, 3, 0, serve_row_23},
+    {"viewers-draw", FULL, 80, 3, 0, serve_draw},
+    {"viewers-ask", FULL, 80, 3, 0, ask},
 };
 
 enum { JOBS = sizeof jobs / sizeof jobs[0], BATCHES = 60, MIXED = 2000 };
@@ -315,6 +374,7 @@ static void differ(const char *job, const char *name) {
 typedef struct {
     uint8_t shared[RAINBOW_SHARED_BYTES], screen[RAINBOW_SCREEN_BYTES], attribute[RAINBOW_ATTRIBUTE_BYTES];
     uint8_t picture[RAINBOW_PICTURE_BYTES], line[RAINBOW_LINE_BYTES], lines[RAINBOW_LIST_BYTES];
+    rainbow_viewers viewers;
     uint32_t answers;
 } left_behind;
 
@@ -325,6 +385,7 @@ static void keep(left_behind *left) {
     memcpy(left->picture, picture, sizeof left->picture);
     memcpy(left->line, line, sizeof left->line);
     memcpy(left->lines, lines, sizeof left->lines);
+    left->viewers = viewers;
     left->answers = answers;
 }
 
@@ -348,6 +409,25 @@ static unsigned chosen;
 static unsigned choose(unsigned under) {
     chosen = chosen * 1664525u + 1013904223u;
     return (chosen >> 8) % under;
+}
+
+/* Stores and drawings that serve viewers of any numbers, and asks. */
+static void mix_viewers(const side *with) {
+    for (int viewer = 0; viewer < RAINBOW_VIEWERS; viewer++)
+        viewers.waiting[viewer] = choose(1 << 16) << 16 | choose(1 << 16);
+    for (int i = 0; i < 4; i++) {
+        size_t of_picture = RAINBOW_PICTURE_BYTES - (choose(10) == 0);
+        rainbow_stored_for_viewers stored =
+            with->store_for(machine, viewers, SHARED, SCREEN, ATTRIBUTE, picture, of_picture, 0xEDFF0 + choose(0x2020),
+                            (uint8_t)choose(256));
+        viewers = stored.viewers;
+        answers = answers * 31 + stored.stored.marks * 16 + stored.stored.refusal;
+        ask_viewer(with, choose(10));
+    }
+    rainbow_drawn_for_viewers drawn = with->draw_for(machine, viewers, SCREEN, ATTRIBUTE, picture,
+                                                     RAINBOW_PICTURE_BYTES - (choose(4) == 0));
+    viewers = drawn.viewers;
+    answers = answers * 31 + (drawn.drawn.reads * 32u + drawn.drawn.wild_row) * 2u + drawn.drawn.refusal;
 }
 
 /* Memories that are hard to walk, and then a call of each kind, some of them refused. */
@@ -377,6 +457,7 @@ static void mixed(const side *with, unsigned seed) {
     answers = answers * 31 + with->list_lines(machine, PICTURE, LIST);
     for (int i = 0; i < 8; i++)
         explain_cell(with, choose(26), choose(134));
+    mix_viewers(with);
 }
 
 static void compare_mixed(void) {

@@ -313,3 +313,40 @@ rainbow_explained best_explain(rainbow_machine machine, const uint8_t *screen, s
     why.kind = (uint8_t)(ff < 0 ? at.kind : 0);
     return why;
 }
+
+rainbow_asked best_ask(rainbow_viewers viewers, size_t viewer) {
+    rainbow_asked asked = {RAINBOW_REFUSED_VIEWER, 0, viewers};
+    if (viewer < RAINBOW_VIEWERS) {
+        asked.refusal = RAINBOW_ACCEPTED;
+        asked.marks = viewers.waiting[viewer];
+        asked.viewers.waiting[viewer] = 0;
+    }
+    return asked;
+}
+
+static const rainbow_viewers all_rows_for_all = {
+    {0x1FFFFFF, 0x1FFFFFF, 0x1FFFFFF, 0x1FFFFFF, 0x1FFFFFF, 0x1FFFFFF, 0x1FFFFFF, 0x1FFFFFF}};
+
+rainbow_drawn_for_viewers best_draw_for_viewers(rainbow_machine machine, rainbow_viewers viewers, const uint8_t *screen,
+                                                size_t screen_length, const uint8_t *attribute, size_t attribute_length,
+                                                uint8_t *picture, size_t picture_length) {
+    rainbow_drawn_for_viewers served;
+    served.drawn = best_draw(machine, screen, screen_length, attribute, attribute_length, picture, picture_length);
+    served.viewers = served.drawn.refusal == RAINBOW_ACCEPTED ? all_rows_for_all : viewers;
+    return served;
+}
+
+/* Where no row is marked the viewers go back as they came. */
+rainbow_stored_for_viewers best_store_for_viewers(rainbow_machine machine, rainbow_viewers viewers, uint8_t *shared,
+                                                  size_t shared_length, uint8_t *screen, size_t screen_length,
+                                                  uint8_t *attribute, size_t attribute_length, uint8_t *picture,
+                                                  size_t picture_length, uint32_t address, uint8_t byte) {
+    rainbow_stored_for_viewers served;
+    served.stored = best_store_with_picture(machine, shared, shared_length, screen, screen_length, attribute,
+                                            attribute_length, picture, picture_length, address, byte);
+    served.viewers = viewers;
+    if (served.stored.marks != 0)
+        for (int viewer = 0; viewer < RAINBOW_VIEWERS; viewer++)
+            served.viewers.waiting[viewer] |= served.stored.marks;
+    return served;
+}

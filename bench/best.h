@@ -22,4 +22,15 @@ uint8_t best_list_lines(rainbow_machine machine, const uint8_t *picture, size_t 
 rainbow_explained best_explain(rainbow_machine machine, const uint8_t *screen, size_t screen_length,
                                const uint8_t *attribute, size_t attribute_length, size_t row, size_t column);
 
+rainbow_asked best_ask(rainbow_viewers viewers, size_t viewer);
+
+rainbow_drawn_for_viewers best_draw_for_viewers(rainbow_machine machine, rainbow_viewers viewers, const uint8_t *screen,
+                                                size_t screen_length, const uint8_t *attribute, size_t attribute_length,
+                                                uint8_t *picture, size_t picture_length);
+
+rainbow_stored_for_viewers best_store_for_viewers(rainbow_machine machine, rainbow_viewers viewers, uint8_t *shared,
+                                                  size_t shared_length, uint8_t *screen, size_t screen_length,
+                                                  uint8_t *attribute, size_t attribute_length, uint8_t *picture,
+                                                  size_t picture_length, uint32_t address, uint8_t byte);
+
 #endif

@@ -263,3 +263,36 @@ rainbow_explained plain_explain(rainbow_machine machine, const uint8_t *screen, 
         why.link = (uint16_t)((end + 1) % PLACES);
     }
 }
+
+rainbow_asked plain_ask(rainbow_viewers viewers, size_t viewer) {
+    rainbow_asked asked = {RAINBOW_REFUSED_VIEWER, 0, viewers};
+    if (viewer >= RAINBOW_VIEWERS)
+        return asked;
+    asked.refusal = RAINBOW_ACCEPTED;
+    asked.marks = asked.viewers.waiting[viewer];
+    asked.viewers.waiting[viewer] = 0;
+    return asked;
+}
+
+rainbow_drawn_for_viewers plain_draw_for_viewers(rainbow_machine machine, rainbow_viewers viewers,
+                                                 const uint8_t *screen, size_t screen_length, const uint8_t *attribute,
+                                                 size_t attribute_length, uint8_t *picture, size_t picture_length) {
+    rainbow_drawn_for_viewers served = {
+        plain_draw(machine, screen, screen_length, attribute, attribute_length, picture, picture_length), viewers};
+    if (served.drawn.refusal == RAINBOW_ACCEPTED)
+        for (int viewer = 0; viewer < RAINBOW_VIEWERS; viewer++)
+            served.viewers.waiting[viewer] = (1u << RAINBOW_ROWS) - 1;
+    return served;
+}
+
+rainbow_stored_for_viewers plain_store_for_viewers(rainbow_machine machine, rainbow_viewers viewers, uint8_t *shared,
+                                                   size_t shared_length, uint8_t *screen, size_t screen_length,
+                                                   uint8_t *attribute, size_t attribute_length, uint8_t *picture,
+                                                   size_t picture_length, uint32_t address, uint8_t byte) {
+    rainbow_stored_for_viewers served = {plain_store_with_picture(machine, shared, shared_length, screen, screen_length,
+                                                                  attribute, attribute_length, picture, picture_length,
+                                                                  address, byte), viewers};
+    for (int viewer = 0; viewer < RAINBOW_VIEWERS; viewer++)
+        served.viewers.waiting[viewer] |= served.stored.marks;
+    return served;
+}

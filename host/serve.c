@@ -3,16 +3,16 @@
  * tried, under an emulator, from another. It uses no header of the C library, since for another processor there may
  * be none. host/src/rainbow/served.rs has the other end.
  *
- * A call: the function's number, the machine, two numbers, how many buffers, and for each whether there is one, its
- * length and its bytes. An answer: the refusal, two numbers, the machine, what a drawing says of a wild link, which is
- * two bytes, what is said of a cell that is explained, eight bytes, and the bytes of each buffer. Numbers have eight
- * bytes, places of screen memory two, the lowest first. */
+ * A call: the function's number, the machine, two numbers, the viewers, how many buffers, and for each whether there is
+ * one, its length and its bytes. An answer: the refusal, two numbers, the machine, what a drawing says of a wild link,
+ * which is two bytes, what is said of a cell that is explained, eight bytes, the viewers, and the bytes of each buffer.
+ * Numbers have eight bytes, the marks of a viewer four, places of screen memory two, the lowest first. */
 #include "rainbow.h"
 
 long read(int file, void *bytes, size_t length);
 long write(int file, const void *bytes, size_t length);
 
-enum { GUARD = 64, MOST = 2 * RAINBOW_SHARED_BYTES, BUFFERS = 4, FUNCTIONS = 24 };
+enum { GUARD = 64, MOST = 2 * RAINBOW_SHARED_BYTES, BUFFERS = 4, FUNCTIONS = 28, FIRST_OF_VIEWERS = 24 };
 
 /* Each buffer has bytes before it and after it that no call may change. */
 static uint8_t memory[BUFFERS][GUARD + MOST + GUARD];
@@ -43,23 +43,52 @@ static bool give(const void *from, size_t bytes)
     return true;
 }
 
-static bool take_number(uint64_t *number)
+static bool take_bytes(uint64_t *number, size_t many)
 {
     uint8_t bytes[8];
-    if (!take(bytes, sizeof bytes))
+    if (!take(bytes, many))
         return false;
     *number = 0;
-    for (int at = 7; at >= 0; at--)
-        *number = *number << 8 | bytes[at];
+    for (size_t at = many; at > 0; at--)
+        *number = *number << 8 | bytes[at - 1];
     return true;
+}
+
+static bool take_number(uint64_t *number)
+{
+    return take_bytes(number, 8);
+}
+
+static bool take_viewers(rainbow_viewers *viewers)
+{
+    uint64_t marks;
+    for (int viewer = 0; viewer < RAINBOW_VIEWERS; viewer++) {
+        if (!take_bytes(&marks, 4))
+            return false;
+        viewers->waiting[viewer] = (uint32_t)marks;
+    }
+    return true;
+}
+
+static bool give_bytes(uint64_t number, size_t many)
+{
+    uint8_t bytes[8];
+    for (size_t at = 0; at < many; at++)
+        bytes[at] = (uint8_t)(number >> 8 * at);
+    return give(bytes, many);
 }
 
 static bool give_number(uint64_t number)
 {
-    uint8_t bytes[8];
-    for (int at = 0; at < 8; at++)
-        bytes[at] = (uint8_t)(number >> 8 * at);
-    return give(bytes, sizeof bytes);
+    return give_bytes(number, 8);
+}
+
+static bool give_viewers(const rainbow_viewers *viewers)
+{
+    for (int viewer = 0; viewer < RAINBOW_VIEWERS; viewer++)
+        if (!give_bytes(viewers->waiting[viewer], 4))
+            return false;
+    return true;
 }
 
 static uint8_t guard(int buffer, size_t at)
@@ -98,11 +127,12 @@ typedef struct {
     rainbow_machine machine;
     rainbow_drawn drawn;
     rainbow_explained explained;
+    rainbow_viewers viewers;
 } answer;
 
 static answer read_byte(rainbow_byte_read read)
 {
-    answer a = {read.refusal, read.byte, 0, {0}, {0}, {0}};
+    answer a = {read.refusal, read.byte, 0, {0}, {0}, {0}, {{0}}};
     return a;
 }
 
@@ -115,12 +145,47 @@ static bool give_explained(rainbow_explained why)
     return give(bytes, sizeof bytes);
 }
 
-/* The functions by their numbers. */
+/* The functions of the viewers by their numbers. */
+static answer serve_viewers(uint8_t function, rainbow_machine machine, rainbow_viewers viewers, uint64_t m, uint64_t n)
+{
+    uint8_t **b = lent;
+    size_t *l = length;
+    answer a = {0, 0, 0, {0}, {0}, {0}, {{0}}};
+    switch (function) {
+    case 24: a.viewers = rainbow_start_viewers(); break;
+    case 25: {
+        rainbow_asked asked = rainbow_ask(viewers, m);
+        a.refusal = asked.refusal;
+        a.value = asked.marks;
+        a.viewers = asked.viewers;
+        break;
+    }
+    case 26: {
+        rainbow_drawn_for_viewers served =
+            rainbow_draw_for_viewers(machine, viewers, b[0], l[0], b[1], l[1], b[2], l[2]);
+        a.drawn = served.drawn;
+        a.refusal = a.drawn.refusal;
+        a.value = a.drawn.reads;
+        a.viewers = served.viewers;
+        break;
+    }
+    default: {
+        rainbow_stored_for_viewers served = rainbow_store_for_viewers(
+            machine, viewers, b[0], l[0], b[1], l[1], b[2], l[2], b[3], l[3], (uint32_t)m, (uint8_t)n);
+        a.refusal = served.stored.refusal;
+        a.value = served.stored.marks;
+        a.viewers = served.viewers;
+    }
+    }
+    return a;
+}
+
+/* The other functions by their numbers. */
 static answer call(uint8_t function, rainbow_machine machine, uint64_t m, uint64_t n)
 {
     uint8_t **b = lent;
     size_t *l = length;
-    answer a = {0, 0, 0, {0}, {0}, {0}};
+    answer a = {0, 0, 0, {0}, {0}, {0}, {{0}}};
     switch (function) {
     case 0: a.value = rainbow_version(); break;
     case 1: a.machine = rainbow_power_up(); break;
@@ -180,18 +245,20 @@ static bool serve(void)
 {
     uint8_t function, buffers;
     rainbow_machine machine;
+    rainbow_viewers viewers;
     uint64_t m, n;
     if (!take(&function, 1) || function >= FUNCTIONS || !take(&machine, sizeof machine))
         return false;
-    if (!take_number(&m) || !take_number(&n) || !take(&buffers, 1) || buffers > BUFFERS)
+    if (!take_number(&m) || !take_number(&n) || !take_viewers(&viewers) || !take(&buffers, 1) || buffers > BUFFERS)
         return false;
     for (int buffer = 0; buffer < buffers; buffer++)
         if (!take_buffer(buffer))
             return false;
-    answer a = call(function, machine, m, n);
+    answer a = function < FIRST_OF_VIEWERS ? call(function, machine, m, n)
+                                           : serve_viewers(function, machine, viewers, m, n);
     if (!give(&a.refusal, 1) || !give_number(a.value) || !give_number(a.length) ||
         !give(&a.machine, sizeof a.machine) || !give(&a.drawn.wild, 1) || !give(&a.drawn.wild_row, 1) ||
-        !give_explained(a.explained))
+        !give_explained(a.explained) || !give_viewers(&a.viewers))
         return false;
     for (int buffer = 0; buffer < buffers; buffer++)
         if (!is_guarded(buffer) || !give(memory[buffer] + GUARD, length[buffer]))

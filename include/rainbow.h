@@ -11,11 +11,11 @@
  *   - a bool is true or false, as C makes it.
  *
  * The caller keeps the buffers and lends them for the length of a call; the library keeps nothing, and calls on
- * different buffers may be made from different threads. The machine goes in by value and comes back.
+ * different buffers may be made from different threads. The machine and the viewers go in by value and come back.
  *
  * A refused call says why by its number. If more than one applies, 1 comes first, then 7 or 8, then the lowest of 2
- * to 6, then 9; the numbers of each call are listed in that order. Every other number of its answer is 0, no row is
- * named, and no byte lent to it and no field of the machine changes.
+ * to 6, then 9, then 10; the numbers of each call are listed in that order. Every other number of its answer is 0, no
+ * row is named, no byte lent to it and no field of the machine changes, and the viewers come back as they were.
  */
 #ifndef RAINBOW_H
 #define RAINBOW_H
@@ -30,7 +30,7 @@ extern "C" {
 
 /* Raised by every new call and every change of a number, a struct or a rule of this file. rainbow_version() is the
  * library's own. */
-#define RAINBOW_VERSION 7
+#define RAINBOW_VERSION 8
 
 /* The length of each buffer, in bytes. */
 #define RAINBOW_SHARED_BYTES 65536
@@ -56,6 +56,7 @@ extern "C" {
 #define RAINBOW_REFUSED_Z80_HELD 7 /* the Z80 is held: bit 0 of port 0A is 0 */
 #define RAINBOW_REFUSED_IN_RESET 8 /* the 8088 is in reset, by the watchdog */
 #define RAINBOW_REFUSED_LATCH 9    /* a whole screen is asked for with the scroll latch over 9 */
+#define RAINBOW_REFUSED_VIEWER 10  /* a viewer over 7 */
 
 /* The picture: a record for each row. A record is the row's start (two bytes, high byte first), its kind, its
  * count, then 132 pairs of character and attribute. The count is the cells before FF, or one of the two below. */
@@ -83,6 +84,9 @@ extern "C" {
 /* The lines of the whole screen, and the rows that show, each in full, where nothing scrolls: rows 0 to 23. */
 #define RAINBOW_LINES 240
 #define RAINBOW_ROWS_AT_REST 24
+
+/* The viewers of one screen, 0 to 7. */
+#define RAINBOW_VIEWERS 8
 
 /* The machine's own state. */
 typedef struct rainbow_machine {
@@ -125,6 +129,31 @@ typedef struct rainbow_stored {
     uint32_t marks;
 } rainbow_stored;
 
+/* The marks that wait for each viewer: bit r of waiting[v] is set if row r was marked since viewer v last asked. */
+typedef struct rainbow_viewers {
+    uint32_t waiting[RAINBOW_VIEWERS];
+} rainbow_viewers;
+
+/* The answer of an ask: the marks that waited for the viewer, and the viewers afterwards, which are those before if the
+ * ask is refused. */
+typedef struct rainbow_asked {
+    uint8_t refusal;
+    uint32_t marks;
+    rainbow_viewers viewers;
+} rainbow_asked;
+
+/* The answer of a drawing that serves viewers: that of rainbow_draw, and the viewers afterwards. */
+typedef struct rainbow_drawn_for_viewers {
+    rainbow_drawn drawn;
+    rainbow_viewers viewers;
+} rainbow_drawn_for_viewers;
+
+/* The answer of a store that serves viewers: that of rainbow_store_with_picture, and the viewers afterwards. */
+typedef struct rainbow_stored_for_viewers {
+    rainbow_stored stored;
+    rainbow_viewers viewers;
+} rainbow_stored_for_viewers;
+
 /* The answer of rainbow_explain. What the answer does not have is 0. */
 typedef struct rainbow_explained {
     uint8_t refusal;
@@ -156,6 +185,10 @@ RAINBOW_SIZE(rainbow_byte_read, 2);
 RAINBOW_SIZE(rainbow_written, 12);
 RAINBOW_SIZE(rainbow_drawn, 6);
 RAINBOW_SIZE(rainbow_stored, 8);
+RAINBOW_SIZE(rainbow_viewers, 32);
+RAINBOW_SIZE(rainbow_asked, 40);
+RAINBOW_SIZE(rainbow_drawn_for_viewers, 40);
+RAINBOW_SIZE(rainbow_stored_for_viewers, 40);
 RAINBOW_SIZE(rainbow_explained, 10);
 RAINBOW_SIZE(rainbow_part_place, 24);
 
@@ -254,6 +287,29 @@ rainbow_stored rainbow_store_with_picture(rainbow_machine machine, uint8_t *shar
 
 /* Whether bit `row` of the marks is set. No bit from 32 up is. */
 bool rainbow_is_marked(uint32_t marks, size_t row);
+
+/* The viewers at the start: all rows wait for all, so each number is 01FFFFFF. The caller keeps the viewers, hands them
+ * to each of the three calls below, and keeps what comes back; they may hold any numbers. A viewer that has its own
+ * copy of the picture, and takes over the records that are marked each time it asks, has the picture as it is. For
+ * that every store and every drawing has to be one that serves viewers: rainbow_store_with_picture and rainbow_draw
+ * change the picture and tell no viewer, and rainbow_store_8088 leaves even the picture behind. After such a call, and
+ * after a change of the column setting, draw by rainbow_draw_for_viewers. */
+rainbow_viewers rainbow_start_viewers(void);
+
+/* Hands viewer 0 to 7 the marks that wait for it, and clears them. No other viewer's change. Refused: 10. */
+rainbow_asked rainbow_ask(rainbow_viewers viewers, size_t viewer);
+
+/* rainbow_draw, and all rows wait for all viewers. Refused: 1. */
+rainbow_drawn_for_viewers rainbow_draw_for_viewers(rainbow_machine machine, rainbow_viewers viewers,
+                                                   const uint8_t *screen, size_t screen_length,
+                                                   const uint8_t *attribute, size_t attribute_length,
+                                                   uint8_t *picture, size_t picture_length);
+
+/* rainbow_store_with_picture, and its marks are added to those that wait for each viewer. Refused: 1, 8, 2. */
+rainbow_stored_for_viewers rainbow_store_for_viewers(rainbow_machine machine, rainbow_viewers viewers, uint8_t *shared,
+                                                     size_t shared_length, uint8_t *screen, size_t screen_length,
+                                                     uint8_t *attribute, size_t attribute_length, uint8_t *picture,
+                                                     size_t picture_length, uint32_t address, uint8_t byte);
 
 /* Says why a row, 0 to 24, shows what it shows in a column, 0 to 131: the rows are those of the walk that rainbow_draw
  * makes, and no picture is lent. All places are places of screen memory, 0 to 4095. The answer is the first of these

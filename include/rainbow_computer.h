@@ -1,9 +1,11 @@
-/* A whole Rainbow in one struct: all memories, the picture and the machine, and the calls of rainbow.h on it.
+/* A whole Rainbow in one struct: all memories, the picture, the viewers and the machine, and the calls of rainbow.h on
+ * it.
  *
  * Nothing here is proved. Each function hands the struct's own buffers, with their lengths, to a proved call, so
  * that no two can be swapped and none can have a wrong length. The picture is kept as long as memories and machine
  * change by these functions alone: a write to a port that changes the column setting draws it afresh by itself.
- * After a change of c.screen, c.attribute or c.machine by hand, call rainbow_computer_draw.
+ * After a change of c.screen, c.attribute or c.machine by hand, call rainbow_computer_draw. Each store and each drawing
+ * serves the eight viewers: rainbow_computer_ask tells one which records to take over.
  *
  *     static rainbow_computer c;
  *     rainbow_computer_power_up(&c);
@@ -28,10 +30,11 @@ typedef struct rainbow_computer {
     uint8_t picture[RAINBOW_PICTURE_BYTES];
     uint8_t line[RAINBOW_LINE_BYTES]; /* the scan line drawn last */
     uint8_t list[RAINBOW_LIST_BYTES]; /* the lines of the whole screen, listed last */
+    rainbow_viewers viewers;          /* the marks that wait for each viewer */
     rainbow_machine machine;
 } rainbow_computer;
 
-RAINBOW_SIZE(rainbow_computer, 88763);
+RAINBOW_SIZE(rainbow_computer, 88796);
 
 /* What a record of the picture says of its row. */
 typedef struct rainbow_row {
@@ -63,22 +66,28 @@ static inline const char *rainbow_refusal_text(uint8_t refusal)
     case RAINBOW_REFUSED_Z80_HELD: return "the Z80 is held";
     case RAINBOW_REFUSED_IN_RESET: return "the 8088 is in reset";
     case RAINBOW_REFUSED_LATCH: return "a whole screen is asked for with the scroll latch over 9";
+    case RAINBOW_REFUSED_VIEWER: return "a viewer over 7";
     default: return "no number of refusal";
     }
 }
 
-/* Draws the picture afresh. The answer has how many bytes were read, and the first row whose link is wild. */
+/* Draws the picture afresh, and all rows wait for all viewers. The answer has how many bytes were read, and the first
+ * row whose link is wild. */
 static inline rainbow_drawn rainbow_computer_draw(rainbow_computer *c)
 {
-    return rainbow_draw(c->machine, c->screen, sizeof c->screen, c->attribute, sizeof c->attribute, c->picture,
-                        sizeof c->picture);
+    rainbow_drawn_for_viewers served =
+        rainbow_draw_for_viewers(c->machine, c->viewers, c->screen, sizeof c->screen, c->attribute, sizeof c->attribute,
+                                 c->picture, sizeof c->picture);
+    c->viewers = served.viewers;
+    return served.drawn;
 }
 
-/* The machine as at power-up, and the picture of the memories as they are: no memory changes. The answer is that of
- * rainbow_computer_draw. */
+/* The machine as at power-up, the viewers as at their start, and the picture of the memories as they are: no memory
+ * changes. The answer is that of rainbow_computer_draw. */
 static inline rainbow_drawn rainbow_computer_power_up(rainbow_computer *c)
 {
     c->machine = rainbow_power_up();
+    c->viewers = rainbow_start_viewers();
     return rainbow_computer_draw(c);
 }
 
@@ -89,12 +98,23 @@ static inline rainbow_byte_read rainbow_computer_read(const rainbow_computer *c,
                              sizeof c->attribute, address);
 }
 
-/* The 8088 stores, and the picture is mended. Refused: 8, 2. */
+/* The 8088 stores, the picture is mended, and the marks wait for each viewer. Refused: 8, 2. */
 static inline rainbow_stored rainbow_computer_store(rainbow_computer *c, uint32_t address, uint8_t byte)
 {
-    return rainbow_store_with_picture(c->machine, c->shared, sizeof c->shared, c->screen, sizeof c->screen,
-                                      c->attribute, sizeof c->attribute, c->picture, sizeof c->picture, address,
-                                      byte);
+    rainbow_stored_for_viewers served =
+        rainbow_store_for_viewers(c->machine, c->viewers, c->shared, sizeof c->shared, c->screen, sizeof c->screen,
+                                  c->attribute, sizeof c->attribute, c->picture, sizeof c->picture, address, byte);
+    c->viewers = served.viewers;
+    return served.stored;
+}
+
+/* Viewer 0 to 7 asks: it is handed the marks of the rows that were marked since it last asked; a drawing marks all rows
+ * for all viewers. No other viewer's marks change. Refused: 10. */
+static inline rainbow_asked rainbow_computer_ask(rainbow_computer *c, size_t viewer)
+{
+    rainbow_asked asked = rainbow_ask(c->viewers, viewer);
+    c->viewers = asked.viewers;
+    return asked;
 }
 
 /* The Z80 reads. Refused: 7. */
@@ -123,8 +143,8 @@ static inline uint8_t rainbow_computer_write_shadow(rainbow_computer *c, size_t 
     return rainbow_write_shadow(c->machine, c->shadow, sizeof c->shadow, place, value);
 }
 
-/* Writes a code to a port. If the column setting changes, the picture is drawn afresh; bit r of the marks is set
- * exactly when record r changed. Refused: 8, 3, 4, 6. */
+/* Writes a code to a port. If the column setting changes, the picture is drawn afresh, so that all rows wait for all
+ * viewers; bit r of the marks is set exactly when record r changed. Refused: 8, 3, 4, 6. */
 static inline rainbow_stored rainbow_computer_write_port(rainbow_computer *c, uint16_t port, uint8_t code)
 {
     uint8_t before[RAINBOW_PICTURE_BYTES];

@@ -5,9 +5,9 @@
     computer.load(screen, attribute)
     print(computer.text(0))
 
-A Computer holds all memories, the picture and the machine. Its methods are the functions of
-include/rainbow_computer.h; include/rainbow.h has the rule of each call. A call that is refused
-raises Refused and changes nothing. A number that the C type cannot hold raises ValueError.
+A Computer holds all memories, the picture, the viewers and the machine. Its methods are the
+functions of include/rainbow_computer.h; include/rainbow.h has the rule of each call. A call that is
+refused raises Refused and changes nothing. A number that the C type cannot hold raises ValueError.
 """
 import ctypes
 import ctypes.util
@@ -17,14 +17,14 @@ from ctypes import c_bool, c_size_t, c_uint8, c_uint16, c_uint32
 from typing import NamedTuple, Optional
 
 # The numbers of include/rainbow.h, by the same names: first its version.
-VERSION = 7
+VERSION = 8
 SHARED_BYTES, PRIVATE_BYTES = 65536, 2048
 SCREEN_BYTES, ATTRIBUTE_BYTES, GLYPH_BYTES = 4096, 4096, 4096
 NVM_BYTES, SHADOW_BYTES = 256, 256
 PICTURE_BYTES, LINE_BYTES, LIST_BYTES = 6700, 1188, 480
 ACCEPTED, REFUSED_LENGTH, REFUSED_ADDRESS, REFUSED_PORT = 0, 1, 2, 3
 REFUSED_CODE, REFUSED_PLACE, REFUSED_EDGES = 4, 5, 6
-REFUSED_Z80_HELD, REFUSED_IN_RESET, REFUSED_LATCH = 7, 8, 9
+REFUSED_Z80_HELD, REFUSED_IN_RESET, REFUSED_LATCH, REFUSED_VIEWER = 7, 8, 9, 10
 ROWS, RECORD_BYTES, KIND_AT, COUNT_AT, PAIRS_AT = 25, 268, 2, 3, 4
 PAIRS = 132
 TORN, DARK = 255, 254
@@ -32,6 +32,7 @@ COLUMNS = 132
 WHY_CELL, WHY_FILL, WHY_PAST, WHY_DARK = 1, 2, 3, 4
 FIRST_SCAN, LAST_SCAN = 1, 10
 LINES, ROWS_AT_REST = 240, 24
+VIEWERS = 8
 
 # What each number of refusal says.
 REFUSAL_TEXTS = (
@@ -45,11 +46,12 @@ REFUSAL_TEXTS = (
     "the Z80 is held",
     "the 8088 is in reset",
     "a whole screen is asked for with the scroll latch over 9",
+    "a viewer over 7",
 )
 
 
 class Refused(Exception):
-    """A call was refused: `number` says why, 1 to 9, and `text` says it in words."""
+    """A call was refused: `number` says why, 1 to 10, and `text` says it in words."""
 
     def __init__(self, number):
         super().__init__(number)
@@ -153,6 +155,26 @@ class Stored(ctypes.Structure):
     _fields_ = [("refusal", c_uint8), ("marks", c_uint32)]
 
 
+class Viewers(ctypes.Structure):
+    """The marks that wait for each of eight viewers."""
+    _fields_ = [("waiting", c_uint32 * VIEWERS)]
+
+
+class Asked(ctypes.Structure):
+    """The answer of an ask."""
+    _fields_ = [("refusal", c_uint8), ("marks", c_uint32), ("viewers", Viewers)]
+
+
+class DrawnForViewers(ctypes.Structure):
+    """The answer of a drawing that serves viewers."""
+    _fields_ = [("drawn", Drawn), ("viewers", Viewers)]
+
+
+class StoredForViewers(ctypes.Structure):
+    """The answer of a store that serves viewers."""
+    _fields_ = [("stored", Stored), ("viewers", Viewers)]
+
+
 class Explained(ctypes.Structure):
     """The answer of what explains a cell."""
     _fields_ = [("refusal", c_uint8), ("answer", c_uint8), ("place", c_uint16), ("kind", c_uint8),
@@ -186,6 +208,11 @@ FUNCTIONS = {
     "rainbow_draw": (Drawn, [Machine] + _LENT * 3),
     "rainbow_store_with_picture": (Stored, [Machine] + _LENT * 4 + [c_uint32, c_uint8]),
     "rainbow_is_marked": (c_bool, [c_uint32, c_size_t]),
+    "rainbow_start_viewers": (Viewers, []),
+    "rainbow_ask": (Asked, [Viewers, c_size_t]),
+    "rainbow_draw_for_viewers": (DrawnForViewers, [Machine, Viewers] + _LENT * 3),
+    "rainbow_store_for_viewers": (StoredForViewers,
+                                  [Machine, Viewers] + _LENT * 4 + [c_uint32, c_uint8]),
     "rainbow_explain": (Explained, [Machine] + _LENT * 2 + [c_size_t] * 2),
     "rainbow_glyph_part": (PartPlace, _LENT + [c_uint8]),
     "rainbow_scan_line": (c_uint8, [Machine] + _LENT * 2 + [c_size_t] * 2 + _LENT),
@@ -202,6 +229,13 @@ def _number(value, kind):
     return value
 
 
+def _refusal(answer):
+    """The refusal of an answer: the answer itself, a field of it, or a field of its first part."""
+    while not isinstance(answer, int):
+        answer = getattr(answer, answer._fields_[0][0])
+    return answer
+
+
 def _call(name, *given):
     """The answer of a function that may refuse. A buffer is lent with its length after it."""
     arguments = []
@@ -211,9 +245,8 @@ def _call(name, *given):
         if kind in (c_uint8, c_uint16, c_uint32, c_size_t):
             arguments[at] = _number(arguments[at], kind)
     answer = getattr(library, name)(*arguments)
-    refusal = answer if isinstance(answer, int) else answer.refusal
-    if refusal != ACCEPTED:
-        raise Refused(refusal)
+    if _refusal(answer) != ACCEPTED:
+        raise Refused(_refusal(answer))
     return answer
 
 
@@ -235,7 +268,8 @@ class Computer(ctypes.Structure):
     """A whole Rainbow: at first all zeros, the machine at power-up, the picture drawn.
 
     The picture is kept as long as memories and machine change by the methods alone. After a change
-    of screen, attribute or machine by hand, call draw().
+    of screen, attribute or machine by hand, call draw(). Each store and each drawing serves the
+    eight viewers: ask() tells one which rows to take over.
     """
 
     _fields_ = [("shared", c_uint8 * SHARED_BYTES), ("private_memory", c_uint8 * PRIVATE_BYTES),
@@ -243,7 +277,7 @@ class Computer(ctypes.Structure):
                 ("glyphs", c_uint8 * GLYPH_BYTES), ("nvm", c_uint8 * NVM_BYTES),
                 ("shadow", c_uint8 * SHADOW_BYTES), ("picture", c_uint8 * PICTURE_BYTES),
                 ("line", c_uint8 * LINE_BYTES), ("list", c_uint8 * LIST_BYTES),
-                ("machine", Machine)]
+                ("viewers", Viewers), ("machine", Machine)]
 
     marked_rows = staticmethod(marked_rows)
 
@@ -252,15 +286,18 @@ class Computer(ctypes.Structure):
         self.power_up()
 
     def power_up(self):
-        """Sets the machine as at power-up and draws; no memory changes. Answers as draw() does."""
+        """Sets the machine as at power-up and the viewers as at their start, and draws; no memory
+        changes. Answers as draw() does."""
         self.machine = library.rainbow_power_up()
+        self.viewers = library.rainbow_start_viewers()
         return self.draw()
 
     def draw(self):
-        """Draws the picture afresh. The answer is a Drawing: how many bytes of screen memory were
-        read, and the first row whose link is wild."""
+        """Draws the picture afresh, and all rows wait for all viewers. The answer is a Drawing: how
+        many bytes of screen memory were read, and the first row whose link is wild."""
         memories = self.screen, self.attribute, self.picture
-        drawn = _call("rainbow_draw", self.machine, *memories)
+        served = _call("rainbow_draw_for_viewers", self.machine, self.viewers, *memories)
+        self.viewers, drawn = served.viewers, served.drawn
         return Drawing(drawn.reads, drawn.wild_row if drawn.wild else None)
 
     def load(self, screen, attribute):
@@ -280,10 +317,21 @@ class Computer(ctypes.Structure):
         return _call("rainbow_read_8088", self.machine, *memories, address).byte
 
     def store(self, address, byte):
-        """The 8088 stores, and the picture is mended. The answer is the marks: bit r is set exactly
-        when record r changed. Refused: 8, 2."""
+        """The 8088 stores, the picture is mended, and the marks wait for each viewer. The answer is
+        the marks: bit r is set exactly when record r changed. Refused: 8, 2."""
         memories = self.shared, self.screen, self.attribute, self.picture
-        return _call("rainbow_store_with_picture", self.machine, *memories, address, byte).marks
+        served = _call("rainbow_store_for_viewers", self.machine, self.viewers, *memories, address,
+                       byte)
+        self.viewers = served.viewers
+        return served.stored.marks
+
+    def ask(self, viewer):
+        """Viewer 0 to 7 asks. The answer is the marks of the rows that were marked since it last
+        asked; a drawing marks all rows for all viewers. No other viewer's marks change.
+        Refused: 10."""
+        asked = _call("rainbow_ask", self.viewers, viewer)
+        self.viewers = asked.viewers
+        return asked.marks
 
     def read_z80(self, address):
         """The byte that the Z80 reads. Refused: 7."""
@@ -305,7 +353,8 @@ class Computer(ctypes.Structure):
 
     def write_port(self, port, code):
         """Writes a code to a port. If the column setting changes, the picture is drawn afresh, and
-        the answer is the marks of the records that changed, else 0. Refused: 8, 3, 4, 6."""
+        the answer is the marks of the records that changed, else 0; for the viewers it is a
+        drawing. Refused: 8, 3, 4, 6."""
         columns = self.columns
         written = _call("rainbow_write_port", self.machine, self.shadow, self.nvm, port, code)
         self.machine = written.machine
@@ -411,8 +460,11 @@ class Computer(ctypes.Structure):
 SIZES = {"size_t": (c_size_t, 8), "bool": (c_bool, 1), "rainbow_machine": (Machine, 11),
          "rainbow_byte_read": (ByteRead, 2), "rainbow_written": (Written, 12),
          "rainbow_drawn": (Drawn, 6), "rainbow_stored": (Stored, 8),
+         "rainbow_viewers": (Viewers, 32), "rainbow_asked": (Asked, 40),
+         "rainbow_drawn_for_viewers": (DrawnForViewers, 40),
+         "rainbow_stored_for_viewers": (StoredForViewers, 40),
          "rainbow_explained": (Explained, 10), "rainbow_part_place": (PartPlace, 24),
-         "rainbow_computer": (Computer, 88763)}
+         "rainbow_computer": (Computer, 88796)}
 
 
 def check_sizes(sizes):

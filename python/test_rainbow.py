@@ -2,7 +2,8 @@
 
 The cases P1 to P13 are those of document 01, with the row that ticket 5 of document 02 adds. Wild
 links are those of ticket 1, a Z80 that is held is that of ticket 2, the watchdog that of ticket 3,
-the whole screen that of ticket 5, and why a cell shows what it shows is ticket 6.
+the whole screen that of ticket 5, why a cell shows what it shows is ticket 6, and the viewers are
+those of ticket 7.
 """
 import copy
 import ctypes
@@ -30,6 +31,7 @@ SCREEN, ATTRIBUTE = 0xEE000, 0xEF000
 DARK_ROW = Row(0, 3, rainbow.DARK, 0)
 LAST_ROW = rainbow.ROWS - 1
 ALL_EMPTY = 3 * rainbow.ROWS  # the bytes read of rows that have no cells
+ALL_ROWS = 0x1FFFFFF  # the marks of rows 0 to 24
 PLAIN = 0x0E  # the attribute of a cell that is neither bold, blinking, underlined nor reverse
 
 
@@ -96,7 +98,9 @@ C_TYPES = {
     "rainbow_byte_read": rainbow.ByteRead, "rainbow_written": rainbow.Written,
     "rainbow_drawn": rainbow.Drawn, "rainbow_stored": rainbow.Stored,
     "rainbow_explained": rainbow.Explained, "rainbow_part_place": rainbow.PartPlace,
-    "rainbow_computer": Computer,
+    "rainbow_viewers": rainbow.Viewers, "rainbow_asked": rainbow.Asked,
+    "rainbow_drawn_for_viewers": rainbow.DrawnForViewers,
+    "rainbow_stored_for_viewers": rainbow.StoredForViewers, "rainbow_computer": Computer,
 }
 
 
@@ -867,14 +871,112 @@ class WhyCells(Case):
             self.assertEqual(bytes(computer.picture)[:268], earlier)
 
 
+class Watching(Case):
+    """Eight viewers on one screen."""
+
+    def setUp(self):
+        super().setUp()
+        # Rows 0 to 2 have three cells each; the others are row 2 again.
+        screen = bytearray(b"ABC\xff\0\1".ljust(256) + b"DEF\xff\0\2".ljust(256)
+                           + b"GHI\xff\0\2".ljust(3584))
+        self.computer.load(screen, b"\3" * 4096)
+        self.asked()
+
+    def asked(self):
+        """What each viewer is handed, viewer 0 first."""
+        return [self.computer.ask(viewer) for viewer in range(rainbow.VIEWERS)]
+
+    def waiting(self):
+        """What waits for each viewer."""
+        return list(self.computer.viewers.waiting)
+
+    def test_start(self):
+        computer = Computer()
+        for viewer in (7, 0, 3):
+            self.assertEqual([computer.ask(viewer) for _ in range(3)], [ALL_ROWS, 0, 0])
+        self.assertEqual(list(computer.viewers.waiting),
+                         [0, ALL_ROWS, ALL_ROWS, 0, ALL_ROWS, ALL_ROWS, ALL_ROWS, 0])
+        self.assertEqual(computer.marked_rows(ALL_ROWS), list(range(25)))
+
+    def test_a_store_adds_its_marks_to_all(self):
+        self.assertEqual(self.computer.store(SCREEN, 0x5A), 1)
+        self.assertEqual(self.waiting(), [1] * 8)
+        self.assertEqual(self.computer.store(SCREEN + 256, 0x5A), 2)
+        self.assertEqual(self.waiting(), [3] * 8)
+        self.assertEqual(self.computer.store(SCREEN + 256, 0x5A), 0)
+        self.assertEqual(self.computer.store(SCREEN + 4000, 0x5A), 0)
+        self.assertEqual(self.computer.store(0, 0x5A), 0)
+        self.assertEqual(self.asked(), [3] * 8)
+        self.assertEqual(self.asked(), [0] * 8)
+
+    def test_an_ask_changes_no_other(self):
+        for viewer in range(rainbow.VIEWERS):
+            self.computer.store(SCREEN, 0x30 + viewer)
+            before = bytes(self.computer)
+            self.assertEqual(self.computer.ask(viewer), 1)
+            at = Computer.viewers.offset + 4 * viewer
+            self.assertEqual(self.changes(before), {at: 0})
+        self.assertEqual(self.asked(), [1] * 7 + [0])
+
+    def test_since_the_last_ask(self):
+        self.computer.store(SCREEN, 0x30)
+        self.assertEqual(self.computer.ask(2), 1)
+        self.computer.store(SCREEN + 512, 0x30)
+        self.assertEqual(self.computer.ask(2), 0x1FFFFFC)
+        self.assertEqual(self.computer.ask(6), 0x1FFFFFD)
+
+    def test_a_drawing_sets_all_for_all(self):
+        self.computer.store(SCREEN, 0x30)
+        for again in (self.computer.draw, self.computer.power_up,
+                      lambda: self.computer.write_port(0x04, 0x10),
+                      lambda: self.computer.load(bytes(4096), bytes(4096))):
+            again()
+            self.assertEqual(self.waiting(), [ALL_ROWS] * 8)
+            self.computer.store(SCREEN, 0x31)
+            self.assertEqual(self.asked(), [ALL_ROWS] * 8)
+        self.computer.write_port(0x04, 0x10)  # the setting as it is
+        self.assertEqual(self.waiting(), [0] * 8)
+
+    def test_refused(self):
+        self.computer.store(SCREEN, 0x30)
+        for viewer in (8, 9, 255, 256, 2 ** 32, 2 ** 64 - 1):
+            self.refused(10, self.computer.ask, viewer)
+        self.refused(2, self.computer.store, 0xF0000, 0x30)
+        self.computer.machine.reset = True
+        self.refused(8, self.computer.store, SCREEN, 0x31)
+        self.assertEqual(self.asked(), [1] * 8)  # an ask is no access of the 8088
+
+    def test_says_why(self):
+        with self.assertRaises(Refused) as caught:
+            self.computer.ask(8)
+        self.assertEqual(str(caught.exception), "10, a viewer over 7")
+
+    def test_any_numbers(self):
+        numbers = [0, 1, 2 ** 25, 2 ** 31, 2 ** 32 - 1, ALL_ROWS, 0xA5A5A5A5, 7]
+        self.computer.viewers.waiting[:] = numbers
+        self.computer.store(SCREEN + 256, 0x30)
+        self.assertEqual(self.asked(), [number | 2 for number in numbers])
+
+    def test_calls_for_one_screen_change_none(self):
+        computer = self.computer
+        rainbow.library.rainbow_draw(computer.machine, computer.screen, 4096, computer.attribute,
+                                     4096, computer.picture, len(computer.picture))
+        stored = rainbow.library.rainbow_store_with_picture(
+            computer.machine, computer.shared, 65536, computer.screen, 4096, computer.attribute,
+            4096, computer.picture, len(computer.picture), SCREEN, 0x30)
+        self.assertEqual((stored.refusal, stored.marks), (0, 1))
+        self.assertEqual(self.asked(), [0] * 8)
+
+
 class Calls(Case):
     """Each method beside the rule of its call."""
 
     def test_new(self):
         machine_at = Computer.machine.offset
         picture_at = Computer.picture.offset
-        self.assertEqual(bytes(self.computer)[machine_at:], bytes(11))
+        self.assertEqual(bytes(self.computer)[machine_at:machine_at + 11], bytes(11))
         self.assertEqual(bytes(self.computer)[:picture_at], bytes(picture_at))
+        self.assertEqual(list(self.computer.viewers.waiting), [ALL_ROWS] * 8)
         kept = bytes(self.computer.picture)
         self.assertNotEqual(kept, bytes(rainbow.PICTURE_BYTES))
         self.computer.draw()
@@ -1038,6 +1140,7 @@ class Numbers(Case):
                 (computer.write_port, [0x0C, 8], [0xFFFF, 0xFF]),
                 (computer.scan_line, [0, 1], [2 ** 64 - 1, 2 ** 64 - 1]),
                 (computer.why, [0, 0], [2 ** 64 - 1, 2 ** 64 - 1]),
+                (computer.ask, [0], [2 ** 64 - 1]),
                 (computer.glyph, [0], [0xFF]),
                 (computer.row, [0], [2 ** 64 - 1]),
                 (computer.text, [0], [2 ** 64 - 1]),
@@ -1072,7 +1175,7 @@ class Headers(unittest.TestCase):
 
     def test_numbers(self):
         wanted = defines(self.calls)
-        self.assertGreaterEqual(len(wanted), 37)
+        self.assertGreaterEqual(len(wanted), 39)
         self.assertEqual({name: getattr(rainbow, name, None) for name in wanted}, wanted)
         pairs = (rainbow.RECORD_BYTES - rainbow.PAIRS_AT) // 2
         self.assertEqual(rainbow.PAIRS, pairs)
@@ -1094,7 +1197,7 @@ class Headers(unittest.TestCase):
         wanted = {**structs(self.calls), **structs(self.whole)}
         self.assertEqual({name for _, name, _ in wanted.pop("rainbow_row")} - {"refusal"},
                          set(Row._fields))
-        self.assertEqual(len(wanted), 8)
+        self.assertEqual(len(wanted), 12)
         for name, fields in wanted.items():
             fields = [(field, C_TYPES[kind] * getattr(rainbow, length) if length else C_TYPES[kind])
                       for kind, field, length in fields]
@@ -1102,7 +1205,7 @@ class Headers(unittest.TestCase):
 
     def test_functions(self):
         wanted = declarations(self.calls)
-        self.assertEqual(len(wanted), 24)
+        self.assertEqual(len(wanted), 28)
         self.assertEqual(list(rainbow.FUNCTIONS), list(wanted))
         for name, (answer, given) in wanted.items():
             function = getattr(rainbow.library, name)
@@ -1112,7 +1215,7 @@ class Headers(unittest.TestCase):
     def test_methods(self):
         """Each function of rainbow_computer.h is a method."""
         names = re.findall(r"^static inline .*\brainbow_computer_(\w+)\(", self.whole, flags=re.M)
-        self.assertEqual(len(names), 17)
+        self.assertEqual(len(names), 18)
         for name in names:
             self.assertTrue(callable(getattr(Computer, name)), name)
 
@@ -1121,7 +1224,7 @@ class Headers(unittest.TestCase):
         found = re.findall(r'case RAINBOW_(\w+):\s+return "(.*)";', self.whole)
         wanted = {numbers[name]: text for name, text in found}
         self.assertEqual(dict(enumerate(rainbow.REFUSAL_TEXTS)), wanted)
-        self.assertEqual(list(wanted), list(range(10)))
+        self.assertEqual(list(wanted), list(range(11)))
 
 
 class Lent(Case):
@@ -1130,7 +1233,9 @@ class Lent(Case):
     numbers = {"address": SCREEN, "byte": 1, "value": 1, "place": 0, "port": 0x0C, "code": 8,
                "row": 0, "scan": 1, "column": 0}
     of_the_8088 = {"rainbow_write_port", "rainbow_read_8088", "rainbow_store_8088",
-                   "rainbow_read_shadow", "rainbow_write_shadow", "rainbow_store_with_picture"}
+                   "rainbow_read_shadow", "rainbow_write_shadow", "rainbow_store_with_picture",
+                   "rainbow_store_for_viewers"}
+    waiting = 0, 2, 4, 8, 16, 32, 64, 2 ** 32 - 1  # a drawing changes each of these, a store most
 
     def arguments(self, given):
         """Arguments that are accepted, a buffer of the computer for each pointer."""
@@ -1141,6 +1246,8 @@ class Lent(Case):
                 arguments += [buffer, len(buffer)]
             elif name == "machine":
                 arguments.append(self.computer.machine)
+            elif name == "viewers":
+                arguments.append(rainbow.Viewers(self.waiting))
             elif not name.endswith("_length"):
                 arguments.append(self.numbers[name])
         return arguments
@@ -1149,14 +1256,18 @@ class Lent(Case):
         """The refusal of an answer. If it is one, all its other numbers are 0."""
         if isinstance(answer, int):
             return answer
-        if answer.refusal != 0:
-            for name, kind in answer._fields_[1:]:
+        (first, _), *others = answer._fields_
+        refusal = self.refusal(getattr(answer, first))  # a number, or an answer in this one
+        if refusal != 0:
+            for name, kind in others:
                 value = getattr(answer, name)
                 if kind is rainbow.Machine:
                     self.assertEqual(bytes(value), bytes(self.computer.machine))
+                elif kind is rainbow.Viewers:
+                    self.assertEqual(tuple(value.waiting), self.waiting)
                 else:
                     self.assertEqual(value, 0, name)
-        return answer.refusal
+        return refusal
 
     def test_refused(self):
         self.computer.tick()
@@ -1185,7 +1296,7 @@ class Lent(Case):
             else:
                 self.assertEqual(self.in_reset(call, arguments), 0, name)
             self.assertEqual(self.refusal(call(*arguments)), 0, name)
-        self.assertEqual(functions, 13)
+        self.assertEqual(functions, 15)
 
     def latch_refused(self, name, call, arguments, lengths):
         """The latch is over 9: 9, but 1 where a length is wrong too."""
@@ -1245,12 +1356,14 @@ class Lent(Case):
 class Runs(Case):
     """A long run of calls."""
 
-    calls = 20000
+    calls = 30000
 
     def setUp(self):
         super().setUp()
         self.random = random.Random(1)
         self.named = set()  # the rows that drawings named
+        # The picture as each viewer has it.
+        self.copies = [bytearray(rainbow.PICTURE_BYTES) for _ in range(rainbow.VIEWERS)]
         fill = self.random.choices(range(256), k=65536)
         self.computer.shared[:] = fill
         self.computer.nvm[:] = fill[:256]
@@ -1272,7 +1385,7 @@ class Runs(Case):
         """Makes one call. The answer is its name, its marks if it has any, and a read that must
         give the byte stored, if one was."""
         computer, below, byte = self.computer, self.random.randrange, self.byte()
-        kind = below(12)
+        kind = below(13)
         if kind < 6:
             address = (below(0x10000) if kind == 0 else SCREEN - 32 + below(0x2040) if kind == 1
                        else self.in_a_row())
@@ -1300,8 +1413,19 @@ class Runs(Case):
             shown = lines_shown(self.kinds(), computer.scroll_latch)
             self.assertEqual(computer.list_lines(), shown)
             return "list_lines", 0, None
+        if kind == 11:
+            return self.asked(below(10)), 0, None
         computer.scan_line(below(rainbow.ROWS + 2), below(rainbow.LAST_SCAN + 2))
         return "scan_line", 0, None
+
+    def asked(self, viewer):
+        """A viewer asks, takes over the rows that are marked, and then has the picture."""
+        rows, picture = rainbow.marked_rows(self.computer.ask(viewer)), self.computer.picture
+        for row in rows:
+            record = slice(row * rainbow.RECORD_BYTES, (row + 1) * rainbow.RECORD_BYTES)
+            self.copies[viewer][record] = bytes(picture[record])
+        self.assertEqual(self.copies[viewer], bytes(picture))
+        return "ask" if rows else "ask in vain"
 
     def kinds(self):
         """The kind of each row."""
@@ -1360,7 +1484,8 @@ class Runs(Case):
         for name, least in (("store", 6000), ("store_z80", 500), (7, 500), ("write_port", 500),
                             ("write_shadow", 500), ("scan_line", 500), ("ticks", 500), (8, 2000),
                             ("list_lines", 500), (9, 100), ("marks", 500), ("columns", 100), (2, 5),
-                            (3, 100), (4, 100), (5, 100), (6, 1)):
+                            (3, 100), (4, 100), (5, 100), (6, 1), ("ask", 500),
+                            ("ask in vain", 100), (10, 100)):
             self.assertGreaterEqual(seen.get(name, 0), least, name)
         self.assertLessEqual({None, 0, 1, 2, 3, 4}, self.named)
 

@@ -21,7 +21,9 @@ static uint8_t *buffers[WAYS][BUFFERS];
 static uint8_t *fence; /* a page that may not be touched */
 static uint8_t *closed[BUFFERS]; /* buffers of which no byte may be touched */
 static size_t page;
-static unsigned long calls, named, z80_ran, z80_held, ran_8088, reset_8088, lists, cells, not_cells;
+static unsigned long calls, named, z80_ran, z80_held, ran_8088, reset_8088, lists, cells, not_cells, told, untold;
+static rainbow_viewers viewers; /* what came back last */
+static uint8_t copies[RAINBOW_VIEWERS][RAINBOW_PICTURE_BYTES]; /* the picture as each viewer has it */
 static uint64_t seed = 0x9E3779B97F4A7C15u;
 
 static uint32_t below(uint32_t n)
@@ -124,10 +126,20 @@ static rainbow_machine tick(rainbow_machine machine)
     return below(2) == 0 ? rainbow_vertical_tick(machine) : machine;
 }
 
+/* The kept picture is drawn for the viewers, any other by itself. */
 static uint8_t draw(rainbow_machine machine, uint8_t **b, int into)
 {
-    rainbow_drawn drawn = rainbow_draw(machine, b[SCREEN], listed[SCREEN], b[ATTRIBUTE], listed[ATTRIBUTE], b[into],
-                                       listed[into]);
+    rainbow_drawn drawn;
+    if (into == PICTURE) {
+        rainbow_drawn_for_viewers served =
+            rainbow_draw_for_viewers(machine, viewers, b[SCREEN], listed[SCREEN], b[ATTRIBUTE], listed[ATTRIBUTE],
+                                     b[into], listed[into]);
+        drawn = served.drawn;
+        viewers = served.viewers;
+    } else {
+        drawn = rainbow_draw(machine, b[SCREEN], listed[SCREEN], b[ATTRIBUTE], listed[ATTRIBUTE], b[into],
+                             listed[into]);
+    }
     if (drawn.reads > MOST_READS)
         fail("too many bytes read");
     if (drawn.wild_row >= RAINBOW_ROWS || (!drawn.wild && drawn.wild_row != 0))
@@ -191,13 +203,42 @@ static void explain(rainbow_machine machine, uint8_t **b)
     *(is_cell ? &cells : &not_cells) += 1;
 }
 
+/* A viewer that takes over the records that are marked has the picture, which is true. */
+static void ask(uint8_t **b)
+{
+    size_t viewer = below(RAINBOW_VIEWERS + 2);
+    rainbow_asked asked = rainbow_ask(viewers, viewer);
+    if (asked.refusal != (viewer < RAINBOW_VIEWERS ? RAINBOW_ACCEPTED : RAINBOW_REFUSED_VIEWER))
+        fail("a viewer is not refused as it should be");
+    viewers = asked.viewers;
+    *(asked.marks != 0 ? &told : &untold) += 1;
+    if (viewer >= RAINBOW_VIEWERS)
+        return;
+    for (size_t row = 0; row < RAINBOW_ROWS; row++) {
+        size_t at = row * RAINBOW_RECORD_BYTES;
+        if (rainbow_is_marked(asked.marks, row))
+            memcpy(copies[viewer] + at, b[PICTURE] + at, RAINBOW_RECORD_BYTES);
+    }
+    if (memcmp(copies[viewer], b[PICTURE], listed[PICTURE]) != 0)
+        fail("a viewer's copy differs from the picture");
+}
+
+static uint8_t store(rainbow_machine machine, uint8_t **b, uint8_t byte)
+{
+    rainbow_stored_for_viewers served = rainbow_store_for_viewers(
+        machine, viewers, b[SHARED], listed[SHARED], b[SCREEN], listed[SCREEN], b[ATTRIBUTE], listed[ATTRIBUTE],
+        b[PICTURE], listed[PICTURE], address(), byte);
+    viewers = served.viewers;
+    return served.stored.refusal;
+}
+
 /* One call that keeps the picture true. */
 static void call(rainbow_machine machine, uint8_t **b)
 {
     size_t place = below(300);
     uint16_t z80 = (uint16_t)(below(2) == 0 ? below(0x1000) : below(0x10000));
     uint8_t byte = below(5) == 0 ? 0xFF : any();
-    switch (below(10)) {
+    switch (below(11)) {
     case 0:
         refused_8088(machine, rainbow_read_8088(machine, b[SHARED], listed[SHARED], b[SCREEN], listed[SCREEN],
                                                 b[ATTRIBUTE], listed[ATTRIBUTE], address()).refusal);
@@ -218,10 +259,8 @@ static void call(rainbow_machine machine, uint8_t **b)
         break;
     case 6: list(machine, b); break;
     case 7: explain(machine, b); break;
-    default:
-        refused_8088(machine, rainbow_store_with_picture(machine, b[SHARED], listed[SHARED], b[SCREEN], listed[SCREEN],
-                                                         b[ATTRIBUTE], listed[ATTRIBUTE], b[PICTURE], listed[PICTURE],
-                                                         address(), byte).refusal);
+    case 8: ask(b); break;
+    default: refused_8088(machine, store(machine, b, byte));
     }
 }
 
@@ -232,6 +271,13 @@ static void refused(rainbow_machine machine, uint8_t **b)
     machine.reset = below(2) == 0;
     rainbow_stored stored =
         rainbow_store_with_picture(machine, fence, 7, fence, 7, fence, 7, fence, length, address(), any());
+    rainbow_stored_for_viewers stored_for = rainbow_store_for_viewers(machine, viewers, fence, 7, fence, 7, fence, 7,
+                                                                      fence, length, address(), any());
+    rainbow_drawn_for_viewers drawn_for = rainbow_draw_for_viewers(machine, viewers, fence, 1, fence, 2, fence, length);
+    if (stored_for.stored.refusal != 1 || drawn_for.drawn.refusal != 1 ||
+        memcmp(&stored_for.viewers, &viewers, sizeof viewers) != 0 ||
+        memcmp(&drawn_for.viewers, &viewers, sizeof viewers) != 0)
+        fail("a wrong length is not refused by 1 to viewers");
     rainbow_drawn one = rainbow_draw(machine, fence, 1, fence, 2, fence, length);
     rainbow_drawn other = rainbow_draw(machine, b[SCREEN], listed[SCREEN], fence, 0, b[PICTURE], length);
     bool all = stored.refusal == 1 && one.refusal == 1 && other.refusal == 1 && !one.wild && !other.wild &&
@@ -279,6 +325,11 @@ static void stopped(rainbow_machine machine)
         rainbow_store_with_picture(machine, n[SHARED], listed[SHARED], n[SCREEN], listed[SCREEN], n[ATTRIBUTE],
                                    listed[ATTRIBUTE], n[PICTURE], listed[PICTURE], address(), any());
     rainbow_written written = rainbow_write_port(machine, n[SHADOW], listed[SHADOW], n[NVM], listed[NVM], 0x0A, any());
+    rainbow_stored_for_viewers served = rainbow_store_for_viewers(
+        machine, viewers, n[SHARED], listed[SHARED], n[SCREEN], listed[SCREEN], n[ATTRIBUTE], listed[ATTRIBUTE],
+        n[PICTURE], listed[PICTURE], address(), any());
+    if (served.stored.refusal != RAINBOW_REFUSED_IN_RESET || memcmp(&served.viewers, &viewers, sizeof viewers) != 0)
+        fail("a store for viewers is not refused by 8");
     if (read.refusal != RAINBOW_REFUSED_IN_RESET || read.byte != 0 || shadow.refusal != RAINBOW_REFUSED_IN_RESET ||
         shadow.byte != 0 || stored.refusal != RAINBOW_REFUSED_IN_RESET || stored.marks != 0 ||
         written.refusal != RAINBOW_REFUSED_IN_RESET || memcmp(&written.machine, &machine, sizeof machine) != 0 ||
@@ -312,6 +363,7 @@ static void off_the_screen(rainbow_machine machine)
 int main(void)
 {
     make_buffers();
+    viewers = rainbow_start_viewers();
     for (int round = 0; calls < 100000; round++) {
         uint8_t **b = buffers[round % WAYS];
         rainbow_machine machine = rainbow_power_up();
@@ -328,7 +380,7 @@ int main(void)
             off_the_screen(machine);
             if (draw(machine, b, FRESH) != 0 || memcmp(b[PICTURE], b[FRESH], listed[PICTURE]) != 0)
                 fail("the kept picture differs from a fresh one");
-            calls += 80;
+            calls += 83;
         }
     }
     for (int buffer = 0; buffer < BUFFERS; buffer++)
@@ -343,6 +395,8 @@ int main(void)
         fail("no whole screen was listed");
     if (cells == 0 || not_cells == 0)
         fail("no cell was explained, or nothing but cells");
+    if (told < 1000 || untold < 1000)
+        fail("a viewer was seldom told of rows, or seldom of none");
     printf("%lu calls touched nothing outside of their buffers\n", calls);
     return 0;
 }

@@ -1,13 +1,18 @@
 /* rainbow_computer.h: each function does what the call behind it does on the struct's own buffers, and the picture is
- * always the one that a drawing afresh gives, although nothing here draws it after a change of columns. */
+ * always the one that a drawing afresh gives, although nothing here draws it after a change of columns. The viewers are
+ * told what a count of the marks by hand says. */
 #include "rainbow_computer.h"
 #include <stdio.h>
 #include <stdlib.h>
 
-enum { CALLS = 200000, LAST_ROW = RAINBOW_ROWS - 1 };
+enum { CALLS = 200000, LAST_ROW = RAINBOW_ROWS - 1, ALL_ROWS = 0x01FFFFFF };
+
+/* The bytes of all fields. After the last there is a byte that is none. */
+enum { ALL_FIELDS = offsetof(rainbow_computer, machine) + sizeof(rainbow_machine) };
 
 static rainbow_computer c, twin; /* the twin is changed by the calls of rainbow.h alone */
 static uint32_t seed = 1, z80_ran, z80_held, ran_8088, reset_8088, listed, not_listed, explained, refused;
+static uint32_t asked, unmarked, no_viewer;
 
 static uint32_t below(uint32_t n)
 {
@@ -46,9 +51,17 @@ static void fill(void)
         c.nvm[at] = (uint8_t)below(256);
 }
 
+/* The marks wait for each viewer of the twin. */
+static void wait_for(uint32_t marks)
+{
+    for (size_t viewer = 0; viewer < RAINBOW_VIEWERS; viewer++)
+        twin.viewers.waiting[viewer] |= marks;
+}
+
 /* The same on the twin, each buffer lent by hand. */
 static void port(uint16_t number, uint8_t code)
 {
+    size_t columns = rainbow_columns(twin.machine);
     uint8_t before[RAINBOW_PICTURE_BYTES];
     memcpy(before, c.picture, sizeof before);
     rainbow_stored stored = rainbow_computer_write_port(&c, number, code);
@@ -57,6 +70,8 @@ static void port(uint16_t number, uint8_t code)
     twin.machine = written.machine;
     rainbow_draw(twin.machine, twin.screen, sizeof twin.screen, twin.attribute, sizeof twin.attribute, twin.picture,
                  sizeof twin.picture);
+    if (rainbow_columns(twin.machine) != columns)
+        wait_for(ALL_ROWS);
     expect(stored.refusal == written.refusal, "the refusal of a port write");
     expect(stored.marks == marks_since(before), "the marks of a port write");
 }
@@ -67,7 +82,19 @@ static void store(uint32_t address, uint8_t byte)
     rainbow_stored wanted = rainbow_store_with_picture(
         twin.machine, twin.shared, sizeof twin.shared, twin.screen, sizeof twin.screen, twin.attribute,
         sizeof twin.attribute, twin.picture, sizeof twin.picture, address, byte);
+    wait_for(wanted.marks);
     expect(stored.refusal == wanted.refusal && stored.marks == wanted.marks, "a store");
+}
+
+static void ask(size_t viewer)
+{
+    rainbow_asked told = rainbow_computer_ask(&c, viewer);
+    bool there = viewer < RAINBOW_VIEWERS;
+    uint32_t marks = there ? twin.viewers.waiting[viewer] : 0;
+    expect(told.refusal == (there ? 0 : 10) && told.marks == marks, "an ask");
+    if (there)
+        twin.viewers.waiting[viewer] = 0;
+    *(!there ? &no_viewer : marks == 0 ? &unmarked : &asked) += 1;
 }
 
 static void read_and_draw(void)
@@ -114,7 +141,7 @@ static void one_call(void)
     static const uint16_t ports[] = {0x04, 0x04, 0x0A, 0x0C, 0x10C, 0x05};
     uint8_t byte = below(8) == 0 ? 0xFF : (uint8_t)below(256);
     uint32_t number = below(300);
-    switch (below(9)) {
+    switch (below(10)) {
     case 0: port(ports[below(6)], below(2) == 0 ? (uint8_t)(below(5) << 4) : byte); break;
     case 1: read_and_draw(); break;
     case 2:
@@ -137,6 +164,7 @@ static void one_call(void)
             twin.machine = rainbow_watchdog_tick(twin.machine);
         }
         break;
+    case 6: ask(number < 200 ? number % RAINBOW_VIEWERS : number); break;
     default: store(0xEDFF0 + below(0x2020), byte);
     }
 }
@@ -144,9 +172,10 @@ static void one_call(void)
 /* Every byte of the two is the same, and drawing afresh changes none. */
 static void compare(void)
 {
-    expect(memcmp(&c, &twin, sizeof c) == 0, "the memories, the picture or the machine");
+    expect(memcmp(&c, &twin, ALL_FIELDS) == 0, "the memories, the picture or the machine");
     rainbow_drawn drawn = rainbow_computer_draw(&c);
-    expect(memcmp(&c, &twin, sizeof c) == 0, "the kept picture");
+    wait_for(ALL_ROWS);
+    expect(memcmp(&c, &twin, ALL_FIELDS) == 0, "the kept picture");
     rainbow_drawn wanted = rainbow_draw(twin.machine, twin.screen, sizeof twin.screen, twin.attribute,
                                         sizeof twin.attribute, twin.picture, sizeof twin.picture);
     expect(drawn.refusal == 0 && drawn.reads == wanted.reads, "the answer of a drawing");
@@ -211,7 +240,7 @@ static void cells(void)
     why = rainbow_computer_explain(&d, LAST_ROW + 1, 0);
     expect(why.refusal == 5 && why.answer == 0 && !why.linked, "a cell of a row after the last");
     expect(rainbow_computer_explain(&d, 0, RAINBOW_COLUMNS).refusal == 5, "a column after the last");
-    expect(memcmp(&d, &before, sizeof d) == 0, "the memories, where cells are explained");
+    expect(memcmp(&d, &before, ALL_FIELDS) == 0, "the memories, where cells are explained");
     rainbow_computer_store(&d, 0xEE008, 'A'); /* row 0 has no FF now */
     expect(is(rainbow_computer_explain(&d, 0, 79), RAINBOW_WHY_CELL, 79, 3, 0), "a cell of a torn row");
     why = rainbow_computer_explain(&d, LAST_ROW, 131);
@@ -247,7 +276,38 @@ static void lists(void)
     rainbow_computer_write_port(&d, 0x0C, 0x07);
     before = d;
     expect(rainbow_computer_list_lines(&d) == 9, "the list with latch 12");
-    expect(memcmp(&d, &before, sizeof d) == 0, "a refused list");
+    expect(memcmp(&d, &before, ALL_FIELDS) == 0, "a refused list");
+}
+
+/* Viewer 3 asks after every store, viewer 7 once after both, and what is refused tells nobody anything. */
+static void viewers(void)
+{
+    static rainbow_computer d, before;
+    memcpy(d.screen, "A\xFF\x00\x01", 4);
+    memcpy(d.screen + 0x100, "B\xFF\x00\x02", 4); /* row 2 and those after it are dark or torn */
+    d.attribute[2] = 3;
+    d.viewers.waiting[5] = 1u << 31;
+    rainbow_computer_power_up(&d);
+    for (size_t viewer = 0; viewer < RAINBOW_VIEWERS; viewer++) {
+        expect(rainbow_computer_ask(&d, viewer).marks == ALL_ROWS, "the first ask");
+        expect(rainbow_computer_ask(&d, viewer).marks == 0, "an ask after an ask");
+    }
+    rainbow_computer_store(&d, 0xEE000, 'C');
+    expect(rainbow_computer_ask(&d, 3).marks == 1 && rainbow_computer_ask(&d, 3).marks == 0, "an ask of viewer 3");
+    rainbow_computer_store(&d, 0xEE100, 'D');
+    expect(rainbow_computer_ask(&d, 3).marks == 2, "a second ask of viewer 3");
+    before = d;
+    expect(rainbow_computer_store(&d, 0xF0000, 'E').refusal == 2, "a store that is refused");
+    rainbow_asked told = rainbow_computer_ask(&d, RAINBOW_VIEWERS);
+    expect(told.refusal == 10 && told.marks == 0, "viewer 8");
+    expect(rainbow_computer_ask(&d, SIZE_MAX).refusal == 10, "the greatest viewer");
+    expect(memcmp(&d, &before, ALL_FIELDS) == 0, "the viewers, where calls are refused");
+    expect(rainbow_computer_ask(&d, 7).marks == 3, "an ask of viewer 7");
+    rainbow_computer_write_port(&d, 0x04, 0x10);
+    expect(rainbow_computer_ask(&d, 7).marks == ALL_ROWS && rainbow_computer_ask(&d, 3).marks == ALL_ROWS,
+           "an ask after a change of columns");
+    rainbow_computer_draw(&d);
+    expect(rainbow_computer_ask(&d, 7).marks == ALL_ROWS, "an ask after a drawing");
 }
 
 /* A Z80 that is held touches no memory. */
@@ -263,7 +323,7 @@ static void z80(void)
         expect(read.refusal == 7 && read.byte == 0, "a read of a Z80 that is held");
         expect(rainbow_computer_store_z80(&d, address, 0x5A) == 7, "a store of a Z80 that is held");
     }
-    expect(memcmp(&d, &before, sizeof d) == 0, "the memories of a Z80 that is held");
+    expect(memcmp(&d, &before, ALL_FIELDS) == 0, "the memories of a Z80 that is held");
     rainbow_computer_write_port(&d, 0x0A, 0x83);
     expect(rainbow_computer_read_z80(&d, 0x7FF).byte == 0x11 && rainbow_computer_read_z80(&d, 0x800).byte == 0x22,
            "a read of a Z80 that runs");
@@ -308,7 +368,7 @@ static void watchdog(void)
     expect(stored.refusal == 8 && stored.marks == 0, "132 columns in reset");
     expect(rainbow_computer_write_port(&d, 0x0C, 0x09).refusal == 8, "code 09 in reset");
     expect(rainbow_computer_write_port(&d, 0x05, 0x00).refusal == 8, "a port that is none, in reset");
-    expect(memcmp(&d, &before, sizeof d) == 0, "the memories, the picture or the machine in reset");
+    expect(memcmp(&d, &before, ALL_FIELDS) == 0, "the memories, the picture or the machine in reset");
     expect(rainbow_computer_store_z80(&d, 0x800, 0x5A) == 0 && rainbow_computer_read_z80(&d, 0x800).byte == 0x5A,
            "the Z80 while the 8088 is in reset");
     expect(rainbow_computer_draw(&d).refusal == 0 && rainbow_computer_scan_line(&d, 0, 1) == 0, "drawings in reset");
@@ -339,12 +399,15 @@ int main(void)
     expect(ran_8088 > 1000 && reset_8088 > 1000, "the 8088 was seldom in reset, or seldom not");
     expect(listed > 1000 && not_listed > 1000, "a whole screen was seldom listed, or seldom not");
     expect(explained > 1000 && refused > 1000, "a cell was seldom explained, or seldom not");
+    expect(asked > 1000 && unmarked > 1000, "a viewer was seldom told of rows, or seldom of none");
+    expect(no_viewer > 1000, "a viewer was seldom refused");
     rows();
     cells();
     lists();
+    viewers();
     z80();
     watchdog();
-    for (int refusal = 0; refusal <= RAINBOW_REFUSED_LATCH + 1; refusal++)
+    for (int refusal = 0; refusal <= RAINBOW_REFUSED_VIEWER + 1; refusal++)
         printf("%d: %s\n", refusal, rainbow_refusal_text((uint8_t)refusal));
     return 0;
 }

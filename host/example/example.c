@@ -1,6 +1,6 @@
 /* Lays two rows of text on the Rainbow's screen, draws them, changes a letter, prints a scan of the dots, says why
- * cells show what they show, scrolls the rows below smoothly, leaves rubbish in a link, lets the Z80 run, and leaves
- * the watchdog alone until it resets the 8088. */
+ * cells show what they show, serves two viewers, scrolls the rows below smoothly, leaves rubbish in a link, lets the
+ * Z80 run, and leaves the watchdog alone until it resets the 8088. */
 #include "rainbow.h"
 #include <stdio.h>
 
@@ -98,6 +98,33 @@ static void print_why(rainbow_machine machine, size_t row, size_t column)
     putchar('\n');
 }
 
+/* What a viewer is handed. The viewers that come back are kept. */
+static void print_asked(rainbow_viewers *viewers, size_t viewer)
+{
+    rainbow_asked asked = rainbow_ask(*viewers, viewer);
+    *viewers = asked.viewers;
+    printf("viewer %d: refusal %d, marks %08X\n", (int)viewer, asked.refusal, (unsigned)asked.marks);
+}
+
+/* The parlour asks after every store, the office now and then. */
+static void print_viewers(rainbow_machine machine)
+{
+    enum { PARLOUR = 0, OFFICE = 1 };
+    rainbow_viewers viewers = rainbow_start_viewers();
+    print_asked(&viewers, PARLOUR);
+    print_asked(&viewers, OFFICE);
+    for (uint32_t place = 0; place <= 0x100; place += 0x100) { /* the first cell of row 0, then that of row 1 */
+        viewers = rainbow_store_for_viewers(machine, viewers, shared, sizeof shared, screen, sizeof screen, attribute,
+                                            sizeof attribute, picture, sizeof picture, 0xEE000 + place, '*').viewers;
+        print_asked(&viewers, PARLOUR);
+    }
+    print_asked(&viewers, OFFICE);
+    viewers = rainbow_draw_for_viewers(machine, viewers, screen, sizeof screen, attribute, sizeof attribute, picture,
+                                       sizeof picture).viewers;
+    print_asked(&viewers, OFFICE);
+    print_asked(&viewers, RAINBOW_VIEWERS);
+}
+
 static void print_line(size_t number)
 {
     printf("line %d is scan %d of row %d\n", (int)number, list[2 * number + 1], list[2 * number]);
@@ -155,6 +182,7 @@ int main(void)
     print_why(machine, 24, 80);
     print_why(machine, 1, RAINBOW_COLUMNS);
 
+    print_viewers(machine);
     print_scrolled(machine);
 
     store(machine, 0x10D, 0x92, 0x0E); /* the high byte of the link of row 1, which still leads to 0200 */

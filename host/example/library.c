@@ -30,6 +30,23 @@ static const buffer right[BUFFERS] = {
     {attribute, sizeof attribute}, {glyphs, sizeof glyphs}, {nvm, sizeof nvm}, {shadow, sizeof shadow},
     {picture, sizeof picture}, {line, sizeof line}, {list, sizeof list}};
 
+/* The two calls that serve viewers, with the refusals that they have to have. */
+static void serve_all(rainbow_machine m, const buffer *s, const buffer *c, const buffer *a, const buffer *p,
+                      uint8_t draw, uint8_t store)
+{
+    rainbow_viewers none = {{0}}, all = rainbow_start_viewers();
+    rainbow_drawn_for_viewers drawn = rainbow_draw_for_viewers(m, none, c->bytes, c->length, a->bytes, a->length,
+                                                               p->bytes, p->length);
+    expect(drawn.drawn.refusal == draw, "draw_for_viewers");
+    expect(memcmp(&drawn.viewers, draw == 0 ? &all : &none, sizeof all) == 0, "the viewers of draw_for_viewers");
+    rainbow_stored_for_viewers stored =
+        rainbow_store_for_viewers(m, none, s->bytes, s->length, c->bytes, c->length, a->bytes, a->length, p->bytes,
+                                  p->length, 0xEE000, (uint8_t)(screen[0] ^ 1));
+    expect(stored.stored.refusal == store && (stored.stored.marks != 0) == (store == 0), "store_for_viewers");
+    for (size_t viewer = 0; viewer < RAINBOW_VIEWERS; viewer++)
+        expect(stored.viewers.waiting[viewer] == stored.stored.marks, "the viewers of store_for_viewers");
+}
+
 /* Whether a call with these buffers is refused by 1, if it is lent buffer `other`, and accepted if not; or refused by
  * 7, if it is the Z80's and the Z80 is held, by 8, if it is the 8088's and the 8088 is in reset, by 9, if it is the
  * whole screen's and the latch is over 9, or by 5, if a cell of row 25 is asked for. */
@@ -72,6 +89,7 @@ static void call_all(const buffer *b, int other, bool reset)
     wanted = main_three || other == 7 ? 1 : otherwise;
     expect(rainbow_store_with_picture(m, s->bytes, s->length, c->bytes, c->length, a->bytes, a->length, p->bytes,
                                       p->length, 0xEE000, 1).refusal == wanted, "store_with_picture");
+    serve_all(m, s, c, a, p, drawn.refusal, wanted);
     expect(rainbow_glyph_part(g->bytes, g->length, 5).refusal == (other == 4), "glyph_part");
     expect(rainbow_scan_line(m, p->bytes, p->length, g->bytes, g->length, 5, 5, l->bytes, l->length) ==
                (other == 4 || other == 7 || other == 8), "scan_line");

@@ -18,6 +18,14 @@ static bool same(rainbow_machine a, rainbow_machine b)
     return memcmp(&a, &b, sizeof a) == 0; /* eleven bytes, with none between them */
 }
 
+/* Viewers that a drawing or a store would change. */
+static const rainbow_viewers viewers = {{0, 2, 4, 8, 16, 32, 64, 0x80000000}};
+
+static bool unchanged(rainbow_viewers after)
+{
+    return memcmp(&after, &viewers, sizeof after) == 0;
+}
+
 int main(void)
 {
     rainbow_machine machine = rainbow_vertical_tick(rainbow_power_up());
@@ -30,6 +38,10 @@ int main(void)
         expect(rainbow_store_8088(machine, NULL, 0, NULL, 0, NULL, 0, 0xEE000, 1) == 1, "store_8088");
         rainbow_stored stored = rainbow_store_with_picture(machine, NULL, 0, NULL, 0, NULL, 0, NULL, 0, 0xEE000, 1);
         expect(stored.refusal == 1 && stored.marks == 0, "store_with_picture");
+        rainbow_stored_for_viewers served =
+            rainbow_store_for_viewers(machine, viewers, NULL, 0, NULL, 0, NULL, 0, NULL, 0, 0xEE000, 1);
+        stored = served.stored;
+        expect(stored.refusal == 1 && stored.marks == 0 && unchanged(served.viewers), "store_for_viewers");
         read = rainbow_read_shadow(machine, NULL, 0, 0);
         expect(read.refusal == 1 && read.byte == 0, "read_shadow");
         expect(rainbow_write_shadow(machine, NULL, 0, 0, 1) == 1, "write_shadow");
@@ -42,6 +54,10 @@ int main(void)
     }
     rainbow_drawn drawn = rainbow_draw(machine, NULL, 0, NULL, 0, NULL, 0);
     expect(drawn.refusal == 1 && drawn.reads == 0 && !drawn.wild && drawn.wild_row == 0, "draw");
+    rainbow_drawn_for_viewers served = rainbow_draw_for_viewers(machine, viewers, NULL, 0, NULL, 0, NULL, 0);
+    drawn = served.drawn;
+    expect(drawn.refusal == 1 && drawn.reads == 0 && !drawn.wild && drawn.wild_row == 0 && unchanged(served.viewers),
+           "draw_for_viewers");
     rainbow_part_place part = rainbow_glyph_part(NULL, 0, 0x41);
     expect(part.refusal == 1 && part.at == 0 && part.length == 0, "glyph_part");
     expect(rainbow_scan_line(machine, NULL, 0, NULL, 0, 0, 1, NULL, 0) == 1, "scan_line");

@@ -4,8 +4,8 @@
 //! call here ends, on all input, and what it answers and leaves is what its definition says; what no proof covers is
 //! the compiler that makes a program of it.
 //!
-//! A caller keeps the memories and lends them to each call. The machine goes in by value and comes back. A call that
-//! is refused says why by a number ([`lent`] has them) and changes nothing.
+//! A caller keeps the memories and lends them to each call. The machine goes in by value and comes back, and so do the
+//! viewers. A call that is refused says why by a number ([`lent`] has them) and changes nothing.
 //!
 //! ```
 //! use rainbow::{lent, machine::Machine, marks, mending, picture};
@@ -38,6 +38,8 @@
 //! | [`shadow::read_shadow`], [`shadow::write_shadow`] | the NVM's shadow, by place, as the 8088 reads and writes it |
 //! | [`picture::draw`] | draws the picture afresh; how many bytes it read, and the first row whose link is wild |
 //! | [`mending::store_with_picture`], [`marks::is_marked`] | the 8088 stores, and the picture is mended; which rows changed |
+//! | [`viewers::Viewers::start`], [`ask`](viewers::Viewers::ask) | eight viewers, for each of whom marks wait; a viewer is handed its own |
+//! | [`viewers::store_for_viewers`], [`viewers::draw_for_viewers`] | the same store, which adds its marks to those of all viewers; the same drawing, which sets all rows for all |
 //! | [`glyphs::part`], [`glyphs::refusal`] | the sixteen bytes of a code in the glyph table |
 //! | [`scan_line::draw`], [`scan_line::dots_of_line`] | the dots of a scan line |
 //! | [`whole_screen::list_lines`] | the row and the scan of each of the 240 lines that show, as the scroll latch says |

@@ -23,11 +23,12 @@ pub mod screen;
 pub mod scripts;
 pub mod trial;
 pub mod tube_sample;
+pub mod viewers;
 pub mod watchdog;
 pub mod why;
 
 /// "Numbers of refusal", with those of document 02: they are 1 to this.
-pub const REFUSALS: usize = 9;
+pub const REFUSALS: usize = 10;
 
 /// A number of refusal or the accepted value.
 pub type Answer<T> = Result<T, u8>;

@@ -4,6 +4,7 @@ pub mod Memories
 pub mod Ports
 pub mod Watchdog
 pub mod Mends
+pub mod Viewers
 pub mod Dots
 pub mod Scroll
 pub mod Lister

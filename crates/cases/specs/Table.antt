@@ -1,14 +1,15 @@
--- Document 01, "Screens and ports worked out": the cases marked P. Document 02: those of tickets 1 to 6.
+-- Document 01, "Screens and ports worked out": the cases marked P. Document 02: those of tickets 1 to 7.
 use Prim.Native.Nat.{_-_}
 use mathlib.Core.List.{List, [], _∷_, _++_, map}
 use mathlib.Core.Bool.{true, false}
 use lib.ListN.{replicate}
-use Rattle.lent.specs.Lengths.{sharedBytes, screenBytes, attributeBytes, shadowBytes}
+use Rattle.lent.specs.Lengths.{sharedBytes, screenBytes, attributeBytes, shadowBytes, pictureBytes}
 use Rattle.machine.specs.Fields.{withHeld, withCount, withReset}
 use Rattle.machine.specs.Power.{powerUp, verticalTick}
+use Rattle.viewers.specs.Viewers.{start, added}
 use Rattle.glyphs.specs.Scans.{scanAddresses, scanAddress, glyphScan}
 use Rattle.ascii.specs.Ascii.{ascii}
-use Rattle.cases.specs.Said.{Case, Private, Shared, Screen, Attribute, Byte, Refused, Interlaced, Recalls, Watch, Row, Start, Count, Reads, Names, Line, Kind, Dots, Addresses, GlyphScan, Prints, Cell, Fill, Past, Dark, Link, IsRow0}
+use Rattle.cases.specs.Said.{Case, Private, Shared, Screen, Attribute, Byte, Refused, Interlaced, Recalls, Watch, Row, Start, Count, Reads, Names, Marked, Line, Kind, Dots, Addresses, GlyphScan, Prints, Cell, Fill, Past, Dark, Link, IsRow0}
 use Rattle.cases.specs.Screens.{alike, drawnAll, startOfRow, countOfRow, memory, named, emptyRows}
 use Rattle.cases.specs.Memories.{running, storedByZ80, storedShort, readByZ80, storedBy8088}
 use Rattle.cases.specs.Ports.{writtenAll, recalls}
@@ -17,6 +18,7 @@ use Rattle.cases.specs.Scroll.{standing, scrolling, linesAt, kindsAt, re
 use Rattle.cases.specs.Lister.{listedOf}
 use Rattle.cases.specs.Why.{looped, overTheEnd, at132, whyAt, besideLink, saidOf}
 use Rattle.cases.specs.Mends.{marked, mendedRow}
+use Rattle.cases.specs.Viewers.{toldTo, askedBy, storedFor, drawnFor}
 use Rattle.cases.specs.Dots.{litDots, everyByte, numbered, digits80, digits132, litByBits, underDigits, printed}
 
 -- P1 to P6
@@ -200,6 +202,30 @@ unfoldable pub mends : List Case
 mends =
     -- P13: screen FF then 00s, attribute all 03; store 01 at place 2: row 1 torn at 256; marks rows 1 to 24, not 0
     record { gives = mendedRow 1 (0xFF ∷ []) 0x03 2 0x01; says = Row 1 256 3 255 ∷ marked 1 24 } ∷ []
+
+-- 02, ticket 7: "an answer is exactly the rows marked since that viewer's last ask, or since a fresh drawing, which sets
+-- all rows for all, as the start does"
+unfoldable pub watched : List Case
+watched =
+    -- the start; the last viewer; again
+    record { gives = toldTo 0 start; says = marked 0 24 }
+    ∷ record { gives = toldTo 7 start; says = marked 0 24 }
+    ∷ record { gives = toldTo 0 (askedBy 0 start); says = [] }
+    -- P13's store adds rows 1 to 24 for this viewer; another has not asked yet
+    ∷ record { gives = toldTo 0 (storedFor 0xEE002 (askedBy 0 start)); says = marked 1 24 }
+    ∷ record { gives = toldTo 1 (storedFor 0xEE002 (askedBy 0 start)); says = marked 0 24 }
+    -- the same store at an address that the 8088 does not see is refused
+    ∷ record { gives = toldTo 0 (storedFor 0xEDFFF (askedBy 0 start)); says = [] }
+    -- a fresh drawing; one that is refused
+    ∷ record { gives = toldTo 0 (drawnFor pictureBytes (askedBy 0 start)); says = marked 0 24 }
+    ∷ record { gives = toldTo 0 (drawnFor (pictureBytes - 1) (askedBy 0 start)); says = [] }
+    -- "adds": the marks of two stores together; and marks that a caller holds in bits of no row
+    ∷ record { gives = toldTo 3 (added (added (askedBy 3 start) 2) 16); says = Marked 1 ∷ Marked 4 ∷ [] }
+    ∷ record { gives = toldTo 3 (added (askedBy 3 start) 0x80000000); says = Marked 31 ∷ [] }
+    -- "10, a viewer over 7", which changes nothing
+    ∷ record { gives = toldTo 8 start; says = Refused 10 ∷ [] }
+    ∷ record { gives = toldTo 0 (askedBy 8 start); says = marked 0 24 }
+    ∷ []
 
 -- P10, P11, and 003, section 2.1.6.7
 unfoldable pub dots : List Case
@@ -445,5 +471,5 @@ sentences =
     ∷ []
 
 unfoldable pub table : List Case
-table = screens ++ wildLinks ++ stores ++ held ++ writes ++ ticks ++ resets ++ mends ++ dots ++ scrolls ++ whys ++ sentences
+table = screens ++ wildLinks ++ stores ++ held ++ writes ++ ticks ++ resets ++ mends ++ watched ++ dots ++ scrolls ++ whys ++ sentences
     ++ prints

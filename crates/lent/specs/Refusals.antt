@@ -49,10 +49,15 @@ inResetRefused = 8
 abbrev pub latchRefused : ℕ
 latchRefused = 9
 
+-- 02, ticket 7: "10, a viewer over 7"
+abbrev pub viewerRefused : ℕ
+viewerRefused = 10
+
 -- the numbers in the order in which they win. 01: "The lowest number wins." But 02, ticket 2, has 7 "after 1", and
--- ticket 3 has 8 "after 1, ahead of 2 to 6", ticket 5 has 9 "after 5 and 6". No call can be refused by both 7 and 8
+-- ticket 3 has 8 "after 1, ahead of 2 to 6", ticket 5 has 9 "after 5 and 6", ticket 7 has 10 "after 9". No call can be
+-- refused by both 7 and 8
 abbrev pub order : List ℕ
-order = 1 ∷ 7 ∷ 8 ∷ 2 ∷ 3 ∷ 4 ∷ 5 ∷ 6 ∷ 9 ∷ []
+order = 1 ∷ 7 ∷ 8 ∷ 2 ∷ 3 ∷ 4 ∷ 5 ∷ 6 ∷ 9 ∷ 10 ∷ []
 
 -- a number by which a call can be refused, with whether it is so
 abbrev pub Reason : Type 0

@@ -49,6 +49,8 @@ pub const Z80_HELD: u8 = 7;
 pub const IN_RESET: u8 = 8;
 // A whole screen is asked for with a scroll latch over 9.
 pub const LATCH: u8 = 9;
+// A viewer over 7.
+pub const VIEWER: u8 = 10;
 
 // The number where something holds, else 0.
 pub fn number_if(holds: bool, number: u8) -> u8

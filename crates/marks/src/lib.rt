@@ -2,7 +2,7 @@
 // "The picture".
 ghost use Prim.Native.Nat.{_^_, _<_};
 ghost use mathlib.Core.Path.{_≡_};
-ghost use Rattle.marks.specs.Marks.{bitSet, marked};
+ghost use Rattle.marks.specs.Marks.{bitSet, marked, joined};
 
 const BITS: usize = 32;
 
@@ -15,6 +15,13 @@ pub fn mark(marks: u32, row: usize, changed: bool) -> u32
         return marks | 1 << row;
     }
     marks
+}
+
+// The marks of both.
+pub fn join(one: u32, other: u32) -> u32
+    ensures { λ r. ⌜ r ≡ joined one other ⌝ }
+{
+    one | other
 }
 
 // Whether a row is among the marks of a store. It asks for a bit of a number, so no row is refused: one over 24 is

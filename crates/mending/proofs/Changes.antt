@@ -30,7 +30,7 @@ module _ (m : Machine) (shared screen attribute picture : List ℕ) (address byt
   test = refuses (refusalWithPicture m shared screen attribute picture address)
 
   -- the marks are those of the pictures before and after, of a refused store too
-  marks-of : (b : Bool) → test ≡ b → left .answer .marks ≡ marksOf picture (left .picture)
+  pub marks-of : (b : Bool) → test ≡ b → left .answer .marks ≡ marksOf picture (left .picture)
   marks-of true h = rw (refused-outcome m shared screen attribute picture address byte h, unchanged picture)
   marks-of false h = rw (mended-outcome m shared screen attribute picture address byte h)
 

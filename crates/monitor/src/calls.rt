@@ -3,14 +3,11 @@ use crate::desk;
 use crate::desk::Desk;
 use crate::forms;
 use crate::say;
+use crate::watching;
 use commands::Command;
 use lent::ByteRead;
 use machine::Machine;
 use machine::Written;
-use mending::Stored;
-
-// The bits of a number of marks. All are shown, also those that no row has.
-const MARK_BITS: usize = 32;
 
 // A number of a line as the byte that a call takes. Its form leaves it no more digits than that.
 pub fn byte(n: usize) -> u8 {
@@ -36,46 +33,6 @@ fn say_read(answer: ByteRead) {
     }
     say::byte(b"reads ", answer.byte);
     say::text(b"\n");
-}
-
-fn say_not_stored(answer: Stored) {
-    say::number(b"refused ", answer.refusal as usize);
-    say::long(b", marks ", answer.marks);
-    say::because(answer.refusal);
-}
-
-fn say_stored(answer: Stored) {
-    if answer.refusal != lent::ACCEPTED {
-        say_not_stored(answer);
-        return;
-    }
-    say::long(b"stored, marks ", answer.marks);
-    for row in 0..MARK_BITS {
-        if marks::is_marked(answer.marks, row) {
-            say::number(b" ", row);
-        }
-    }
-    say::text(b"\n");
-}
-
-fn store(
-    desk: Desk,
-    command: Command,
-    shared: &mut [u8],
-    screen: &mut [u8],
-    attribute: &mut [u8],
-    picture: &mut [u8],
-) {
-    let a = desk::cut(desk, desk::PICTURE, picture);
-    say_stored(mending::store_with_picture(
-        desk.machine,
-        shared,
-        screen,
-        attribute,
-        &mut picture[0..a],
-        address(command.first),
-        byte(command.second),
-    ));
 }
 
 fn store_blind(
@@ -106,13 +63,16 @@ fn call_8088(
     screen: &mut [u8],
     attribute: &mut [u8],
     picture: &mut [u8],
-) {
+) -> Desk {
     let form = command.form;
     match form {
-        forms::STORE => store(desk, command, shared, screen, attribute, picture),
+        forms::STORE => {
+            return watching::store(desk, command, shared, screen, attribute, picture);
+        }
         forms::BLIND => store_blind(desk.machine, command, shared, screen, attribute),
         _ => read(desk.machine, command, shared, screen, attribute),
     }
+    desk
 }
 
 // Obeys a line that is a call of the 8088.
@@ -123,7 +83,7 @@ pub fn by_8088(
     screen: &mut [u8],
     attribute: &mut [u8],
     picture: &mut [u8],
-) {
+) -> Desk {
     let a = desk::cut(desk, desk::SHARED, shared);
     let b = desk::cut(desk, desk::SCREEN, screen);
     let c = desk::cut(desk, desk::ATTRIBUTE, attribute);
@@ -134,7 +94,7 @@ pub fn by_8088(
         &mut screen[0..b],
         &mut attribute[0..c],
         picture,
-    );
+    )
 }
 
 fn store_z80(machine: Machine, command: Command, private: &mut [u8], shared: &mut [u8]) {

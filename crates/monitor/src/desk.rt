@@ -1,7 +1,8 @@
-// What the monitor keeps beside the memories: the machine, and how many bytes of each memory it lends.
+// What the monitor keeps beside the memories: the machine, the viewers, and how many bytes of each memory it lends.
 ghost use Prim.Native.Nat.{_≤_};
 ghost use lib.ListN.{length};
 use machine::Machine;
+use viewers::Viewers;
 
 // The memories by number, in the order of document 01's list and then 02's, each one after the one before it.
 pub const SHARED: usize = 0;
@@ -49,14 +50,16 @@ pub const LINES_BYTES: usize = lent::LIST_BYTES + 1;
 
 pub struct Desk {
     pub machine: Machine,
+    pub viewers: Viewers,
     // How many bytes of each memory are lent.
     pub lent: [usize; MEMORIES],
 }
 
-// The machine at power-up, and every memory lent whole.
+// The machine at power-up, the viewers at their start, and every memory lent whole.
 pub fn power_up() -> Desk {
     Desk {
         machine: Machine::power_up(),
+        viewers: Viewers::start(),
         lent: [
             lent::SHARED_BYTES,
             lent::PRIVATE_BYTES,
@@ -72,20 +75,41 @@ pub fn power_up() -> Desk {
     }
 }
 
-// The same memories lent, with another machine.
+// The same desk with another machine.
 pub fn with_machine(desk: Desk, machine: Machine) -> Desk {
+    let viewers = desk.viewers;
     let lent = desk.lent;
-    Desk { machine, lent }
+    Desk {
+        machine,
+        viewers,
+        lent,
+    }
+}
+
+// The same desk with what a call made of the viewers.
+pub fn with_viewers(desk: Desk, viewers: Viewers) -> Desk {
+    let machine = desk.machine;
+    let lent = desk.lent;
+    Desk {
+        machine,
+        viewers,
+        lent,
+    }
 }
 
 // Lends so many bytes of a memory from now on.
 pub fn with_lent(desk: Desk, name: usize, bytes: usize) -> Desk {
     let machine = desk.machine;
+    let viewers = desk.viewers;
     let mut lent = desk.lent;
     if name < MEMORIES {
         lent[name] = bytes;
     }
-    Desk { machine, lent }
+    Desk {
+        machine,
+        viewers,
+        lent,
+    }
 }
 
 // How many bytes of a memory are lent: no more than it has.

@@ -31,7 +31,9 @@ pub const SHADOW_READ: usize = SHADOW_WRITE + 1;
 
 pub const DRAW: usize = SHADOW_READ + 1;
 
-pub const MARKED: usize = DRAW + 1;
+pub const ASK: usize = DRAW + 1;
+
+pub const MARKED: usize = ASK + 1;
 
 pub const WHY: usize = MARKED + 1;
 
@@ -54,7 +56,11 @@ pub const LATCH: usize = MACHINE + 1;
 
 pub const COUNT: usize = LATCH + 1;
 
-pub const ROWS: usize = COUNT + 1;
+pub const VIEWERS: usize = COUNT + 1;
+
+pub const WAIT: usize = VIEWERS + 1;
+
+pub const ROWS: usize = WAIT + 1;
 
 pub const TEXT: usize = ROWS + 1;
 
@@ -87,6 +93,7 @@ const FORM_TEXTS: [u8; FORMS * commands::FORM_BYTES] = *b"store HHHHHHHH HH     
     shadow write DDDDD HH           \
     shadow read DDDDD               \
     draw                            \
+    ask DDDDD                       \
     marked HHHHHHHH DDDDD           \
     why DDDDD DDDDD                 \
     line DDDDD DDDDD                \
@@ -98,6 +105,8 @@ const FORM_TEXTS: [u8; FORMS * commands::FORM_BYTES] = *b"store HHHHHHHH HH     
     machine                         \
     latch HH                        \
     count DDD D                     \
+    viewers                         \
+    wait DDDDD HHHHHHHH             \
     rows                            \
     text                            \
     list DDDDD                      \

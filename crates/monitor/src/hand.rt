@@ -6,6 +6,7 @@ use crate::forms;
 use crate::rows;
 use crate::say;
 use crate::strewn;
+use crate::watching;
 use commands::Command;
 
 fn fill(memory: &mut [u8], byte: u8) {
@@ -155,6 +156,10 @@ pub fn obey(
         forms::MACHINE => say::machine(b"machine: ", desk.machine),
         forms::LATCH => return latch(desk, calls::byte(command.first)),
         forms::COUNT => return count(desk, calls::byte(command.first), command.second != 0),
+        forms::VIEWERS => watching::say_waiting(b"viewers:", desk.viewers),
+        forms::WAIT => {
+            return watching::wait(desk, command.first, calls::address(command.second));
+        }
         forms::ROWS => rows::list(picture),
         forms::TEXT => rows::show(picture, desk.machine.columns()),
         forms::LIST => rows::list_afresh(desk, command.first, screen, attribute),

@@ -10,6 +10,7 @@ mod rows;
 mod say;
 mod scans;
 mod strewn;
+mod watching;
 mod why;
 
 use desk::Desk;
@@ -77,12 +78,14 @@ fn turn(
     let form = command.form;
     match form {
         forms::STORE..=forms::READ => {
-            calls::by_8088(desk, command, shared, screen, attribute, picture)
+            return calls::by_8088(desk, command, shared, screen, attribute, picture);
         }
         forms::Z80_STORE..=forms::Z80_READ => calls::by_z80(desk, command, private, shared),
         forms::PORT..=forms::WATCH => return calls::to_machine(desk, command, shadow, nvm),
         forms::SHADOW_WRITE..=forms::SHADOW_READ => calls::to_shadow(desk, command, shadow),
-        forms::DRAW..=forms::SCROLL => scans::show(
+        forms::DRAW => return watching::draw(desk, screen, attribute, picture),
+        forms::ASK => return watching::ask(desk, command.first),
+        forms::MARKED..=forms::SCROLL => scans::show(
             desk,
             command,
             screen,

@@ -72,6 +72,7 @@ pub fn because(refusal: u8) {
         lent::Z80_HELD => line(b": the Z80 is held in reset"),
         lent::IN_RESET => line(b": the 8088 is in reset"),
         lent::LATCH => line(b": the scroll latch is over 9"),
+        lent::VIEWER => line(b": no such viewer"),
         _ => line(b": a refusal that the monitor does not know"),
     }
 }

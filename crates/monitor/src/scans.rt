@@ -1,4 +1,4 @@
-// The picture, the scan line and the glyph part, shown.
+// The scan line and the glyph part, shown.
 use crate::calls;
 use crate::desk;
 use crate::desk::Desk;
@@ -9,40 +9,6 @@ use crate::say;
 use crate::why;
 use commands::Command;
 use machine::Machine;
-use picture::Drawn;
-
-fn say_wild(answer: Drawn) {
-    if answer.wild {
-        say::number(b", first wild row: ", answer.wild_row as usize);
-        return;
-    }
-    say::text(b", no wild row named");
-}
-
-fn say_drawn(answer: Drawn) {
-    if answer.refusal != lent::ACCEPTED {
-        say::number(b"refused ", answer.refusal as usize);
-        say::number(b", bytes read ", answer.reads as usize);
-        say_wild(answer);
-        say::because(answer.refusal);
-        return;
-    }
-    say::number(b"drawn, bytes read: ", answer.reads as usize);
-    say_wild(answer);
-    say::text(b"\n");
-}
-
-fn draw_picture(desk: Desk, screen: &[u8], attribute: &[u8], picture: &mut [u8]) {
-    let a = desk::cut(desk, desk::SCREEN, screen);
-    let b = desk::cut(desk, desk::ATTRIBUTE, attribute);
-    let c = desk::cut(desk, desk::PICTURE, picture);
-    say_drawn(picture::draw(
-        desk.machine,
-        &screen[0..a],
-        &attribute[0..b],
-        &mut picture[0..c],
-    ));
-}
 
 fn is_marked(command: Command) {
     if marks::is_marked(calls::address(command.first), command.second) {
@@ -116,20 +82,19 @@ fn scroll(desk: Desk) {
     say::text(b"\n");
 }
 
-// Obeys a line that draws, or that asks what a drawing goes by.
+// Obeys a line that draws dots, or that asks what a drawing goes by.
 pub fn show(
     desk: Desk,
     command: Command,
     screen: &[u8; desk::SCREEN_BYTES],
     attribute: &[u8; desk::ATTRIBUTE_BYTES],
-    picture: &mut [u8; desk::PICTURE_BYTES],
+    picture: &[u8; desk::PICTURE_BYTES],
     table: &[u8; desk::GLYPHS_BYTES],
     line: &mut [u8; desk::LINE_BYTES],
     lines: &mut [u8; desk::LINES_BYTES],
 ) {
     let form = command.form;
     match form {
-        forms::DRAW => draw_picture(desk, screen, attribute, picture),
         forms::MARKED => is_marked(command),
         forms::WHY => why::explain(desk, command, screen, attribute),
         forms::LINE => draw_line(desk, command, picture, table, line),

@@ -4,3 +4,4 @@ pub mod dots;
 pub mod machine_calls;
 pub mod processors;
 pub mod screen;
+pub mod watching;

@@ -10,7 +10,7 @@ use Rattle.machine.specs.Settings.{z80Runs}
 use Rattle.memories.specs.View8088.{seen8088}
 use Rattle.memories.proofs.Laws.{accepted-right, store-refusal}
 use Rattle.mending.specs.Store.{StoredWithPicture, refusalWithPicture}
-use Rattle.runs.specs.World.{Memory, Shared, Private, Screen, Attribute, Picture, World, Call, Read8088, Store8088, ReadZ80, StoreZ80, ReadShadow, WriteShadow, WritePort, VerticalTick, WatchdogTick, Draw, StoreWithPicture, GlyphPart, DrawLine, ListLines, Explain, after, answer}
+use Rattle.runs.specs.World.{Memory, Shared, Private, Screen, Attribute, Picture, World, Call, Read8088, Store8088, ReadZ80, StoreZ80, ReadShadow, WriteShadow, WritePort, VerticalTick, WatchdogTick, Draw, StoreWithPicture, DrawForViewers, StoreForViewers, Ask, GlyphPart, DrawLine, ListLines, Explain, after, answer}
 use Rattle.runs.specs.Reach.{TheMachine, InReset, AllOf, has, hasMemory, Same, mayChange}
 use Rattle.runs.specs.Z80.{onlyParts, onlyMemories, isZ80, CodeHas, SameLengths}
 use Rattle.runs.specs.Kept.{Lent, Own, Another, lentBytes, keptBytes, lending, Step, Made, Lending, stepped}
@@ -22,7 +22,7 @@ use Rattle.runs.proofs.Z80.{keeps-the-bit, stores-by-length, pictures-a
 use Rattle.runs.proofs.Stopped.{step-refused, step-stays, first-and-later, stopped-touches-nothing}
 
 -- a step leaves the lengths, and each memory that its call may not change
-step-lengths : (step : Step) (w : World) (memory : Memory) → length (stepped step w .bytes memory) ≡ length (w .bytes memory)
+pub step-lengths : (step : Step) (w : World) (memory : Memory) → length (stepped step w .bytes memory) ≡ length (w .bytes memory)
 step-lengths (Made call) w memory = lengths-stay call w memory
 step-lengths (Lending lent call) w memory =
     go (lent memory) (w .bytes memory) (after call (lending lent w) .bytes memory) (lengths-stay call (lending lent w) memory)
@@ -49,6 +49,7 @@ pub aside :
 unfolding onlyParts onlyMemories has hasMemory
 aside (Store8088 a b) other = (stored-apart (seen8088 a) (AllOf Private) refl, λ h. h)
 aside (StoreWithPicture a b) other = (stored-apart (seen8088 a) (AllOf Private) refl, λ h. h)
+aside (StoreForViewers a b) other = (stored-apart (seen8088 a) (AllOf Private) refl, λ h. h)
 aside (ReadZ80 a) other = absurd (true≢false other)
 aside (StoreZ80 a b) other = absurd (true≢false other)
 aside (Read8088 a) other = (refl, λ _. refl)
@@ -58,6 +59,8 @@ aside (WritePort p k) other = (refl, λ _. refl)
 aside VerticalTick other = (refl, λ _. refl)
 aside WatchdogTick other = (refl, λ _. refl)
 aside Draw other = (refl, λ _. refl)
+aside DrawForViewers other = (refl, λ _. refl)
+aside (Ask n) other = (refl, λ _. refl)
 aside (GlyphPart k) other = (refl, λ _. refl)
 aside (DrawLine r s) other = (refl, λ _. refl)
 aside ListLines other = (refl, λ _. refl)
@@ -72,16 +75,20 @@ module _ (w v : World) (out : v .machine .reset ≡ false) (lengths : SameLength
   abbrev Alike : Call → Type 0
   Alike call = (after call w .bytes Shared ≡ after call v .bytes Shared) × (after call v .machine .reset ≡ false)
 
+  picture-alike : (a b : ℕ) → refuses (answer (StoreWithPicture a b) w .refusal) ≡ false → Alike (StoreWithPicture a b)
+  picture-alike a b accepts =
+      let refusal = told (λ (left : StoredWithPicture). left .answer .refusal) (with-picture a w) _ _ refl refl in
+      let reset = accepted-right (w .machine) _ a (sym (ap refuses refusal) ∙ accepts) .1 in
+      (pictures-alike a b w v (reset ∙ sym out) lengths (AllOf Shared) same same, out)
+
   store-alike : (call : Call) → storesShared call ≡ true → refuses (answer call w .refusal) ≡ false → Alike call
   unfolding has
   store-alike (Store8088 a b) is accepts =
       let refusal = store-refusal (w .machine) (w .bytes Shared) (w .bytes Screen) (w .bytes Attribute) a b in
       let reset = accepted-right (w .machine) _ a (sym (ap refuses refusal) ∙ accepts) .1 in
       (stores-by-length a b w v (reset ∙ sym out) lengths (AllOf Shared) same, out)
-  store-alike (StoreWithPicture a b) is accepts =
-      let refusal = told (λ (left : StoredWithPicture). left .answer .refusal) (with-picture a w) _ _ refl refl in
-      let reset = accepted-right (w .machine) _ a (sym (ap refuses refusal) ∙ accepts) .1 in
-      (pictures-alike a b w v (reset ∙ sym out) lengths (AllOf Shared) same same, out)
+  store-alike (StoreWithPicture a b) is accepts = picture-alike a b accepts
+  store-alike (StoreForViewers a b) is accepts = picture-alike a b accepts
   store-alike (Read8088 a) is accepts = absurd (false≢true is)
   store-alike (ReadZ80 a) is accepts = absurd (false≢true is)
   store-alike (StoreZ80 a b) is accepts = absurd (false≢true is)
@@ -91,6 +98,8 @@ module _ (w v : World) (out : v .machine .reset ≡ false) (lengths : SameLength
   store-alike VerticalTick is accepts = absurd (false≢true is)
   store-alike WatchdogTick is accepts = absurd (false≢true is)
   store-alike Draw is accepts = absurd (false≢true is)
+  store-alike DrawForViewers is accepts = absurd (false≢true is)
+  store-alike (Ask n) is accepts = absurd (false≢true is)
   store-alike (GlyphPart k) is accepts = absurd (false≢true is)
   store-alike (DrawLine r s) is accepts = absurd (false≢true is)
   store-alike ListLines is accepts = absurd (false≢true is)

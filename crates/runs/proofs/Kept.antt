@@ -22,9 +22,9 @@ use Rattle.mending.proofs.True.{keeps-true}
 use Rattle.whole_screen.specs.Screen.{screenLines}
 use Rattle.whole_screen.specs.Call.{kindsIn, refusalList, Listed}
 use Rattle.whole_screen.proofs.Fresh.{of-the-chain}
-use Rattle.runs.specs.World.{Memory, Shared, Screen, Attribute, Picture, ScreenList, World, Call, Read8088, Store8088, ReadZ80, StoreZ80, ReadShadow, WriteShadow, WritePort, VerticalTick, WatchdogTick, Draw, StoreWithPicture, GlyphPart, DrawLine, ListLines, Explain, after, answer}
+use Rattle.runs.specs.World.{Memory, Shared, Screen, Attribute, Picture, ScreenList, World, Call, Read8088, Store8088, ReadZ80, StoreZ80, ReadShadow, WriteShadow, WritePort, VerticalTick, WatchdogTick, Draw, StoreWithPicture, DrawForViewers, StoreForViewers, Ask, GlyphPart, DrawLine, ListLines, Explain, after, answer}
 use Rattle.runs.specs.Reach.{AllOf, has, mayChange}
-use Rattle.runs.specs.Kept.{Lent, Own, Another, lentBytes, keptBytes, lending, keeping, leavesPictureBehind, Step, Made, Lending, stepped, inRuns, TheseAreIn, allInRuns, sameColumns, played, playedAll, Kept, KeptByRuns, KeptFromDrawing, ListFromKept}
+use Rattle.runs.specs.Kept.{Lent, Own, Another, lentBytes, keptBytes, lending, keeping, leavesPictureBehind, Step, Made, Lending, stepped, inRuns, TheseAreIn, allInRuns, sameColumns, Drawing, Alone, Serving, callTo, played, playedAll, Kept, KeptByRuns, KeptFromDrawing, ListFromKept}
 use Rattle.runs.proofs.Worlds.{refusedWithPicture, picture-refused}
 use Rattle.runs.proofs.Refused.{changes-nothing}
 use Rattle.runs.proofs.Reach.{stored-apart, changes-only, lengths-stay}
@@ -105,7 +105,7 @@ quiet-kept call w apart behind same k =
 
 pub these-are-in : TheseAreIn
 unfolding has
-these-are-in address byte port code w = (rw and-false, (refl, (refl, (refl, refl))))
+these-are-in address byte port code w = (rw and-false, (rw and-false, (refl, (refl, (refl, refl)))))
 
 call-kept :
     (call : Call) (w : World) → leavesPictureBehind call ≡ false → sameColumns w (after call w) ≡ true → Kept w → Kept (after call w)
@@ -113,6 +113,9 @@ unfolding has
 call-kept (Store8088 a b) w h c k = quiet-kept (Store8088 a b) w (stored-apart (seen8088 a) (AllOf Picture) refl) h c k
 call-kept (StoreWithPicture a b) w h c k = store-kept w a b k
 call-kept Draw w h c k = drawing-kept w
+call-kept (StoreForViewers a b) w h c k = store-kept w a b k
+call-kept DrawForViewers w h c k = drawing-kept w
+call-kept (Ask n) w h c k = k
 call-kept (Read8088 a) w h c k = k
 call-kept (ReadZ80 a) w h c k = k
 call-kept (StoreZ80 a b) w h c k = quiet-kept (StoreZ80 a b) w refl h c k
@@ -126,31 +129,47 @@ call-kept (DrawLine r s) w h c k = quiet-kept (DrawLine r s) w refl h c k
 call-kept ListLines w h c k = quiet-kept ListLines w refl h c k
 call-kept (Explain r n) w h c k = k
 
--- a call that was lent other memories and refused leaves the world that is kept
-pub lending-stays : (lent : Memory → Lent) (call : Call) (w : World) → inRuns (Lending lent call) w ≡ true → stepped (Lending lent call) w ≡ w
-lending-stays lent call w h =
-    ap (keeping lent w) (changes-nothing call (lending lent w) (λ e. false≢true (sym (ap refuses e) ∙ h)) .0)
-    ∙ ap (λ (bytes : Memory → List ℕ). record { machine = w .machine; bytes = bytes })
+-- memories that come back as they were lent leave the world that is kept
+pub kept-as-lent : (lent : Memory → Lent) (w : World) → keeping lent w (lending lent w) ≡ w
+kept-as-lent lent w =
+    ap (λ (bytes : Memory → List ℕ). record { machine = w .machine; viewers = w .viewers; bytes = bytes })
     (fun-ext (λ memory. own (lent memory) (w .bytes memory)))
   where
     own : (one : Lent) (bytes : List ℕ) → keptBytes one bytes (lentBytes one bytes) ≡ bytes
     own Own bytes = refl
     own (Another other) bytes = refl
 
+-- so does a call that was lent other memories and refused
+pub lending-stays : (lent : Memory → Lent) (call : Call) (w : World) → inRuns (Lending lent call) w ≡ true → stepped (Lending lent call) w ≡ w
+lending-stays lent call w h =
+    ap (keeping lent w) (changes-nothing call (lending lent w) (λ e. false≢true (sym (ap refuses e) ∙ h)) .0) ∙ kept-as-lent lent w
+
+-- the drawing that serves viewers leaves the picture that the other leaves, and is refused when it is
+redrawing-kept : (drawing : Drawing) (w : World) → Kept (after (callTo drawing) w)
+redrawing-kept Alone w = drawing-kept w
+redrawing-kept Serving w = drawing-kept w
+
+refused-alike : (drawing : Drawing) (w : World) → answer (callTo drawing) w .refusal ≡ answer Draw w .refusal
+refused-alike Alone w = refl
+refused-alike Serving w = refl
+
 -- a step, with the drawing after it if the column setting changed
-step-kept : (step : Step) (w : World) → inRuns step w ≡ true → Kept w → Kept (played step w) × (drawable (played step w) ≡ drawable w)
-step-kept (Made call) w h k = go (sameColumns w (after call w)) refl
+step-kept :
+    (drawing : Drawing) (step : Step) (w : World) → inRuns step w ≡ true → Kept w
+    → Kept (played drawing step w) × (drawable (played drawing step w) ≡ drawable w)
+step-kept drawing (Made call) w h k = go (sameColumns w (after call w)) refl
   where
     go :
         (b : Bool) → sameColumns w (after call w) ≡ b
-        → let last = cond b (after call w) (after Draw (after call w)) in Kept last × (drawable last ≡ drawable w)
+        → let last = cond b (after call w) (after (callTo drawing) (after call w)) in Kept last × (drawable last ≡ drawable w)
     go true same = (call-kept call w (not-true _ h) same k, drawable-after call w)
-    go false other = (drawing-kept (after call w), drawable-after Draw (after call w) ∙ drawable-after call w)
-step-kept (Lending lent call) w h k =
+    go false other =
+        (redrawing-kept drawing (after call w), drawable-after (callTo drawing) (after call w) ∙ drawable-after call w)
+step-kept drawing (Lending lent call) w h k =
     subst Plays (sym (lending-stays lent call w h)) (rw (one-setting (w .machine .columns132)) (k, refl))
   where
     Plays : World → Type 0
-    Plays new = let last = cond (sameColumns w new) new (after Draw new) in Kept last × (drawable last ≡ drawable w)
+    Plays new = let last = cond (sameColumns w new) new (after (callTo drawing) new) in Kept last × (drawable last ≡ drawable w)
 
     one-setting : (b : Bool) → cond b b (not b) ≡ true
     one-setting true = refl
@@ -169,17 +188,20 @@ same-answer w v e =
     drawing-answers v ∙ ap (λ (b : Bool). cond b accepted lengthRefused) e ∙ sym (drawing-answers w)
 
 pub kept-by-runs : KeptByRuns
-kept-by-runs [] w all k = (k, refl)
-kept-by-runs (step ∷ steps) w all k =
-    let both = and-eq-true-iff (inRuns step w) (allInRuns steps (played step w)) .0 all in
-    let one = step-kept step w (both .0) k in
-    let rest = kept-by-runs steps (played step w) (both .1) (one .0) in
-    (rest .0, rest .1 ∙ same-answer w (played step w) (one .1))
+kept-by-runs drawing [] w all k = (k, refl)
+kept-by-runs drawing (step ∷ steps) w all k =
+    let next = played drawing step w in
+    let both = and-eq-true-iff (inRuns step w) (allInRuns drawing steps next) .0 all in
+    let one = step-kept drawing step w (both .0) k in
+    let rest = kept-by-runs drawing steps next (both .1) (one .0) in
+    (rest .0, rest .1 ∙ same-answer w next (one .1))
 
 pub kept-from-drawing : KeptFromDrawing
-kept-from-drawing steps w all accepts =
-    let run = kept-by-runs steps (after Draw w) all (drawing-kept w) in
-    is-fresh (playedAll steps (after Draw w)) (run .1 ∙ same-answer w (after Draw w) (drawable-after Draw w) ∙ accepts) (run .0)
+kept-from-drawing drawing steps w all accepts =
+    let begun = after (callTo drawing) w in
+    let run = kept-by-runs drawing steps begun all (redrawing-kept drawing w) in
+    is-fresh (playedAll drawing steps begun)
+    (run .1 ∙ same-answer w begun (drawable-after (callTo drawing) w) ∙ sym (refused-alike drawing w) ∙ accepts) (run .0)
   where
     is-fresh : (v : World) → answer Draw v .refusal ≡ accepted → Kept v → v .bytes Picture ≡ fresh v
     is-fresh v h k = go (drawable v) refl (sym (drawing-answers v) ∙ h)
@@ -199,8 +221,8 @@ accepted-lines w =
     (refuses refusal) _ _ (λ e h. absurd (true≢false (sym e ∙ ap (λ (n : ℕ). refuses n) h))) (λ e h. refl)
 
 pub list-from-kept : ListFromKept
-list-from-kept steps w all accepts listed =
-    let last = playedAll steps (after Draw w) in
+list-from-kept drawing steps w all accepts listed =
+    let last = playedAll drawing steps (after (callTo drawing) w) in
     let c = chainOf (last .machine) (last .bytes Screen) (last .bytes Attribute) in
     accepted-lines last listed
-    ∙ rw (kept-from-drawing steps w all accepts) (of-the-chain c (scrollLatch (last .machine)) (columns-fit (last .machine)))
+    ∙ rw (kept-from-drawing drawing steps w all accepts) (of-the-chain c (scrollLatch (last .machine)) (columns-fit (last .machine)))

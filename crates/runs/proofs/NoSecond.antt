@@ -29,6 +29,11 @@ use Rattle.listing.proofs.list_rows.Reads as list-rows
 use Rattle.marks.proofs.is_marked.Reads as is-marked
 use Rattle.mending.specs.Store.{storedWithPicture}
 use Rattle.mending.proofs.store_with_picture.Reads as store-with-picture
+use Rattle.viewers.specs.Serving.{drawnServing, storedServing}
+use Rattle.viewers.proofs.Viewers.start.Reads as start-viewers
+use Rattle.viewers.proofs.Viewers.ask.Reads as ask
+use Rattle.viewers.proofs.draw_for_viewers.Reads as draw-for-viewers
+use Rattle.viewers.proofs.store_for_viewers.Reads as store-for-viewers
 use Rattle.glyphs.specs.Glyphs.{slice}
 use Rattle.glyphs.proofs.part.Reads as part
 use Rattle.glyphs.proofs.refusal.Reads as part-refusal
@@ -65,6 +70,10 @@ use Rattle.rainbow.proofs.processors.rainbow_write_shadow.Reads as c-write-shad
 use Rattle.rainbow.proofs.screen.rainbow_draw.Reads as c-draw
 use Rattle.rainbow.proofs.screen.rainbow_store_with_picture.Reads as c-store-with-picture
 use Rattle.rainbow.proofs.screen.rainbow_is_marked.Reads as c-is-marked
+use Rattle.rainbow.proofs.watching.rainbow_start_viewers.Reads as c-start-viewers
+use Rattle.rainbow.proofs.watching.rainbow_ask.Reads as c-ask
+use Rattle.rainbow.proofs.watching.rainbow_draw_for_viewers.Reads as c-draw-for-viewers
+use Rattle.rainbow.proofs.watching.rainbow_store_for_viewers.Reads as c-store-for-viewers
 use Rattle.rainbow.proofs.dots.rainbow_glyph_part.Reads as c-glyph-part
 use Rattle.rainbow.proofs.dots.rainbow_scan_line.Reads as c-scan-line
 use Rattle.rainbow.proofs.dots.rainbow_dots_of_line.Reads as c-dots-of-line
@@ -130,6 +139,20 @@ store-with-picture-once κs a one two = no-second
 
 pub is-marked-once : AnswersOnce is-marked.Post
 is-marked-once κs a one two = no-second
+
+pub start-viewers-once : AnswersOnce start-viewers.Post
+start-viewers-once κs a one two = no-second
+
+pub ask-once : AnswersOnce ask.Post
+ask-once κs a one two = no-second
+
+pub draw-for-viewers-once : Once draw-for-viewers.Post (λ κs r s. drawnServing r (now (s .1 .1 .1 .1 .0)))
+draw-for-viewers-once κs a one two = no-second
+
+pub store-for-viewers-once :
+    Once store-for-viewers.Post
+    (λ κs r s. storedServing r (now (s .1 .1 .0)) (now (s .1 .1 .1 .0)) (now (s .1 .1 .1 .1 .0)) (now (s .1 .1 .1 .1 .1 .0)))
+store-for-viewers-once κs a one two = no-second
 
 pub part-once : Once part.Post (λ κs r s. slice (r .ptr) (now r))
 part-once κs a one two = no-second
@@ -232,6 +255,20 @@ c-store-with-picture-once κs a one two = no-second
 
 pub c-is-marked-once : AnswersOnce c-is-marked.Post
 c-is-marked-once κs a one two = no-second
+
+pub c-start-viewers-once : AnswersOnce c-start-viewers.Post
+c-start-viewers-once κs a one two = no-second
+
+pub c-ask-once : AnswersOnce c-ask.Post
+c-ask-once κs a one two = no-second
+
+pub c-draw-for-viewers-once : Once c-draw-for-viewers.Post (λ κs r s. drawnServing r (now (s .1 .1 .1 .1 .0)))
+c-draw-for-viewers-once κs a one two = no-second
+
+pub c-store-for-viewers-once :
+    Once c-store-for-viewers.Post
+    (λ κs r s. storedServing r (now (s .1 .1 .0)) (now (s .1 .1 .1 .0)) (now (s .1 .1 .1 .1 .0)) (now (s .1 .1 .1 .1 .1 .0)))
+c-store-for-viewers-once κs a one two = no-second
 
 pub c-glyph-part-once : AnswersOnce c-glyph-part.Post
 c-glyph-part-once κs a one two = no-second

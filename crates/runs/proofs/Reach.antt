@@ -31,13 +31,14 @@ use Rattle.picture.proofs.Laws.{lentPicture, columns-fit}
 use Rattle.picture.proofs.Sizes.{picture-sized}
 use Rattle.mending.proofs.Laws.{mended-sized}
 use Rattle.mending.proofs.Outcome.{accepts}
+use Rattle.viewers.specs.declared.Viewers.{Viewers}
 use Rattle.scan_line.specs.Call.{onTube, refusalLine, DrawnLine}
 use Rattle.scan_line.proofs.Laws.{lentLine}
 use Rattle.scan_line.proofs.Line.{line-sized}
 use Rattle.whole_screen.specs.Call.{lengthsList, latchMost, kindsIn, refusalList, Listed}
 use Rattle.whole_screen.proofs.Shown.{always-240}
-use Rattle.runs.specs.World.{Memory, Shared, Private, Screen, Attribute, Glyphs, Nvm, Shadow, Picture, Line, ScreenList, numberOf, isMemory, World, withMachine, withBytes, Read8088, Store8088, ReadZ80, StoreZ80, ReadShadow, WriteShadow, WritePort, VerticalTick, WatchdogTick, Draw, StoreWithPicture, GlyphPart, DrawLine, ListLines, Explain, after}
-use Rattle.runs.specs.Reach.{Part, TheMachine, Z80Bit, InReset, Below0800, From0800, AllOf, numberOfPart, has, Same, storedAt, ChangesOnly, LengthsStay}
+use Rattle.runs.specs.World.{Memory, Shared, Private, Screen, Attribute, Glyphs, Nvm, Shadow, Picture, Line, ScreenList, numberOf, isMemory, World, withMachine, withViewers, withBytes, Read8088, Store8088, ReadZ80, StoreZ80, ReadShadow, WriteShadow, WritePort, VerticalTick, WatchdogTick, Draw, StoreWithPicture, DrawForViewers, StoreForViewers, Ask, GlyphPart, DrawLine, ListLines, Explain, after}
+use Rattle.runs.specs.Reach.{Part, TheMachine, Z80Bit, InReset, Below0800, From0800, TheViewers, AllOf, numberOfPart, has, Same, storedAt, ChangesOnly, LengthsStay}
 use Rattle.runs.proofs.Ports.{port-reset}
 use Rattle.runs.proofs.Worlds.{with-length, storedIn, stored-length, refused8088, store-refused, store-accepted, refusedZ80, z80-refused, z80-private, z80-shared, not-below, mendedIn, refusedWithPicture, picture-refused, picture-accepted}
 
@@ -47,6 +48,7 @@ same-refl Z80Bit w = refl
 same-refl InReset w = refl
 same-refl Below0800 w = refl
 same-refl From0800 w = refl
+same-refl TheViewers w = refl
 same-refl (AllOf memory) w = refl
 
 -- worlds that are the same are the same in every part
@@ -60,6 +62,7 @@ same-trans Z80Bit u w v p q = p ∙ q
 same-trans InReset u w v p q = p ∙ q
 same-trans Below0800 u w v p q = p ∙ q
 same-trans From0800 u w v p q = p ∙ q
+same-trans TheViewers u w v p q = p ∙ q
 same-trans (AllOf memory) u w v p q = p ∙ q
 
 -- a part that is not in a list is not its first, and not in the rest
@@ -73,7 +76,7 @@ other-memory :
     (memory one : Memory) → eqb (numberOfPart (AllOf one)) (numberOfPart (AllOf memory)) ≡ false → isMemory one memory ≡ false
 other-memory memory one h =
     ne-eqb (numberOf one) (numberOf memory)
-    (λ e. eqb-false (5 + numberOf one) (5 + numberOf memory) h (ap (λ (n : ℕ). 5 + n) e))
+    (λ e. eqb-false (6 + numberOf one) (6 + numberOf memory) h (ap (λ (n : ℕ). 6 + n) e))
 
 -- other bytes in a memory that is not shared memory leave every part but that memory
 with-leaves :
@@ -84,6 +87,7 @@ with-leaves memory new w other Z80Bit h = refl
 with-leaves memory new w other InReset h = refl
 with-leaves memory new w other Below0800 h = rw other
 with-leaves memory new w other From0800 h = rw other
+with-leaves memory new w other TheViewers h = refl
 with-leaves memory new w other (AllOf one) h = rw (other-memory memory one h)
 
 -- a byte stored in shared memory leaves the other half of it
@@ -110,6 +114,7 @@ module _ (w : World) (place byte : ℕ) where
           → drop sharedFrom (set (w .bytes Shared) place byte) ≡ drop sharedFrom (w .bytes Shared)
       go true e g = drop-set-lt sharedFrom (w .bytes Shared) place byte (ltb-true place sharedFrom e)
       go false e g = absurd (true≢false g)
+  shared-leaves TheViewers h = refl
   shared-leaves (AllOf one) h = rw (other-memory Shared one (apart (AllOf Shared) (half ∷ []) (AllOf one) h .0))
 
 -- a write to a port leaves shadow and NVM as long as they were
@@ -141,7 +146,7 @@ port-sized w port code =
         ))
 
 -- a drawing, a line and a list that is accepted has room of the right length, and a list a latch of 0 to 9
-accepted-picture :
+pub accepted-picture :
     (w : World) → refuses (refusalDrawing (w .bytes Screen) (w .bytes Attribute) (w .bytes Picture)) ≡ false
     → length (w .bytes Picture) ≡ pictureBytes
 accepted-picture w = go (lengthsPicture (length (w .bytes Screen)) (length (w .bytes Attribute)) (length (w .bytes Picture))) refl
@@ -186,19 +191,19 @@ stored-apart seen part h = go seen
     n : ℕ
     n = numberOfPart part
 
-    shared : (eqb n 5 ≡ false) × (eqb n 3 || (eqb n 4 || (eqb n 7 || (eqb n 8 || false))) ≡ false)
-    shared = neither (eqb n 5) _ h
+    shared : (eqb n 6 ≡ false) × (eqb n 3 || (eqb n 4 || (eqb n 8 || (eqb n 9 || false))) ≡ false)
+    shared = neither (eqb n 6) _ h
 
-    below : (eqb n 3 ≡ false) × (eqb n 4 || (eqb n 7 || (eqb n 8 || false)) ≡ false)
+    below : (eqb n 3 ≡ false) × (eqb n 4 || (eqb n 8 || (eqb n 9 || false)) ≡ false)
     below = neither (eqb n 3) _ (shared .1)
 
-    from : (eqb n 4 ≡ false) × (eqb n 7 || (eqb n 8 || false) ≡ false)
+    from : (eqb n 4 ≡ false) × (eqb n 8 || (eqb n 9 || false) ≡ false)
     from = neither (eqb n 4) _ (below .1)
 
-    screens : (eqb n 7 ≡ false) × (eqb n 8 || false ≡ false)
-    screens = neither (eqb n 7) _ (from .1)
+    screens : (eqb n 8 ≡ false) × (eqb n 9 || false ≡ false)
+    screens = neither (eqb n 8) _ (from .1)
 
-    halves : (b : Bool) → eqb n 5 || (eqb n (numberOfPart (cond b Below0800 From0800)) || false) ≡ false
+    halves : (b : Bool) → eqb n 6 || (eqb n (numberOfPart (cond b Below0800 From0800)) || false) ≡ false
     halves true = rw (shared .0, below .0)
     halves false = rw (shared .0, from .0)
 
@@ -218,7 +223,19 @@ machine-leaves m w Z80Bit h b r = b refl
 machine-leaves m w InReset h b r = r refl
 machine-leaves m w Below0800 h b r = refl
 machine-leaves m w From0800 h b r = refl
+machine-leaves m w TheViewers h b r = refl
 machine-leaves m w (AllOf memory) h b r = refl
+
+-- other viewers leave every part but the viewers
+viewers-leave :
+    (v : Viewers) (w : World) (part : Part) → eqb (numberOfPart part) (numberOfPart TheViewers) ≡ false → Same part (withViewers v w) w
+viewers-leave v w TheMachine h = refl
+viewers-leave v w Z80Bit h = refl
+viewers-leave v w InReset h = refl
+viewers-leave v w Below0800 h = refl
+viewers-leave v w From0800 h = refl
+viewers-leave v w TheViewers h = absurd (true≢false h)
+viewers-leave v w (AllOf memory) h = refl
 
 -- a tick of the watchdog leaves whether the Z80 runs
 pub tick-runs : (m : Machine) → z80Runs (watchdogTick m) ≡ z80Runs m
@@ -227,6 +244,34 @@ tick-runs m =
   where
     Runs : Machine → Type 0
     Runs n = z80Runs n ≡ z80Runs m
+
+-- a drawing leaves every part but the picture, and a store with a picture but that and what it stores in; one that
+-- serves viewers leaves the rest as well
+drawing-leaves : (w : World) (part : Part) → has (AllOf Picture ∷ []) part ≡ false → Same part (after Draw w) w
+drawing-leaves w part h = with-leaves Picture _ w refl part (apart (AllOf Picture) [] part h .0)
+
+picture-leaves :
+    (a b : ℕ) (w : World) (part : Part) → has (AllOf Picture ∷ storedAt (seen8088 a)) part ≡ false
+    → Same part (after (StoreWithPicture a b) w) w
+picture-leaves a b w part h = go (refusedWithPicture a w) refl
+  where
+    drawn : World
+    drawn = withBytes Picture (mendedIn a b w) w
+
+    go : (r : Bool) → refusedWithPicture a w ≡ r → Same part (after (StoreWithPicture a b) w) w
+    go true e = same-by part _ w w w (picture-refused a b w e) refl (same-refl part w)
+    go false e =
+        let aside = apart (AllOf Picture) (storedAt (seen8088 a)) part h in
+        same-by part _ (storedIn (seen8088 a) b drawn) w w (picture-accepted a b w e) refl
+        (same-trans part (storedIn (seen8088 a) b drawn) drawn w (stored-leaves (seen8088 a) b drawn part (aside .1))
+        (with-leaves Picture _ w refl part (aside .0)))
+
+serving-leaves :
+    (v : Viewers) (u w : World) (parts : List Part) (part : Part) → (has parts part ≡ false → Same part u w)
+    → has (TheViewers ∷ parts) part ≡ false → Same part (withViewers v u) w
+serving-leaves v u w parts part leaves h =
+    let aside = apart TheViewers parts part h in
+    same-trans part (withViewers v u) u w (viewers-leave v u part (aside .0)) (leaves (aside .1))
 
 pub changes-only : ChangesOnly
 changes-only (Read8088 a) w part h = same-refl part w
@@ -264,23 +309,36 @@ changes-only WatchdogTick w part h =
     let aside = apart TheMachine (InReset ∷ []) part h in
     let ticking = apart InReset [] part (aside .1) in
     machine-leaves _ w part (aside .0) (λ _. tick-runs (w .machine)) (λ is. absurd (true≢false (rw is at ticking .0)))
-changes-only Draw w part h = with-leaves Picture _ w refl part (apart (AllOf Picture) [] part h .0)
-changes-only (StoreWithPicture a b) w part h = go (refusedWithPicture a w) refl
-  where
-    drawn : World
-    drawn = withBytes Picture (mendedIn a b w) w
-
-    go : (r : Bool) → refusedWithPicture a w ≡ r → Same part (after (StoreWithPicture a b) w) w
-    go true e = same-by part _ w w w (picture-refused a b w e) refl (same-refl part w)
-    go false e =
-        let aside = apart (AllOf Picture) (storedAt (seen8088 a)) part h in
-        same-by part _ (storedIn (seen8088 a) b drawn) w w (picture-accepted a b w e) refl
-        (same-trans part (storedIn (seen8088 a) b drawn) drawn w (stored-leaves (seen8088 a) b drawn part (aside .1))
-        (with-leaves Picture _ w refl part (aside .0)))
+changes-only Draw w part h = drawing-leaves w part h
+changes-only (StoreWithPicture a b) w part h = picture-leaves a b w part h
+changes-only DrawForViewers w part h = serving-leaves _ (after Draw w) w (AllOf Picture ∷ []) part (drawing-leaves w part) h
+changes-only (StoreForViewers a b) w part h =
+    serving-leaves _ (after (StoreWithPicture a b) w) w (AllOf Picture ∷ storedAt (seen8088 a)) part (picture-leaves a b w part) h
+changes-only (Ask n) w part h = viewers-leave _ w part (apart TheViewers [] part h .0)
 changes-only (GlyphPart k) w part h = same-refl part w
 changes-only (DrawLine r s) w part h = with-leaves Line _ w refl part (apart (AllOf Line) [] part h .0)
 changes-only ListLines w part h = with-leaves ScreenList _ w refl part (apart (AllOf ScreenList) [] part h .0)
 changes-only (Explain r k) w part h = same-refl part w
+
+drawing-lengths : (w : World) (one : Memory) → length (after Draw w .bytes one) ≡ length (w .bytes one)
+drawing-lengths w one =
+    with-length Picture _ w
+    (either (λ (left : DrawnPicture). length (left .picture) ≡ length (w .bytes Picture))
+    (refuses (refusalDrawing (w .bytes Screen) (w .bytes Attribute) (w .bytes Picture))) _ _ (λ _. refl)
+    (λ e. picture-sized (chainOf (w .machine) (w .bytes Screen) (w .bytes Attribute)) (columns-fit (w .machine))
+    ∙ sym (accepted-picture w e)))
+    one
+
+picture-lengths : (a b : ℕ) (w : World) (one : Memory) → length (after (StoreWithPicture a b) w .bytes one) ≡ length (w .bytes one)
+picture-lengths a b w one = go (refusedWithPicture a w) refl
+  where
+    go : (r : Bool) → refusedWithPicture a w ≡ r → length (after (StoreWithPicture a b) w .bytes one) ≡ length (w .bytes one)
+    go true e = ap (λ (u : World). length (u .bytes one)) (picture-refused a b w e)
+    go false e =
+        let long = accepts (w .machine) (w .bytes Shared) (w .bytes Screen) (w .bytes Attribute) (w .bytes Picture) a b e .0 in
+        ap (λ (u : World). length (u .bytes one)) (picture-accepted a b w e)
+        ∙ stored-length (seen8088 a) b (withBytes Picture (mendedIn a b w) w) one
+        ∙ with-length Picture (mendedIn a b w) w (mended-sized _ _ (w .bytes Picture) (columns-fit (w .machine)) long ∙ sym long) one
 
 pub lengths-stay : LengthsStay
 lengths-stay (Read8088 a) w one = refl
@@ -312,22 +370,11 @@ lengths-stay (WritePort p k) w one =
     with-length Shadow (left .shadow) (withBytes Nvm (left .nvm) w) (sized .0) one ∙ with-length Nvm (left .nvm) w (sized .1) one
 lengths-stay VerticalTick w one = refl
 lengths-stay WatchdogTick w one = refl
-lengths-stay Draw w one =
-    with-length Picture _ w
-    (either (λ (left : DrawnPicture). length (left .picture) ≡ length (w .bytes Picture))
-    (refuses (refusalDrawing (w .bytes Screen) (w .bytes Attribute) (w .bytes Picture))) _ _ (λ _. refl)
-    (λ e. picture-sized (chainOf (w .machine) (w .bytes Screen) (w .bytes Attribute)) (columns-fit (w .machine))
-    ∙ sym (accepted-picture w e)))
-    one
-lengths-stay (StoreWithPicture a b) w one = go (refusedWithPicture a w) refl
-  where
-    go : (r : Bool) → refusedWithPicture a w ≡ r → length (after (StoreWithPicture a b) w .bytes one) ≡ length (w .bytes one)
-    go true e = ap (λ (u : World). length (u .bytes one)) (picture-refused a b w e)
-    go false e =
-        let long = accepts (w .machine) (w .bytes Shared) (w .bytes Screen) (w .bytes Attribute) (w .bytes Picture) a b e .0 in
-        ap (λ (u : World). length (u .bytes one)) (picture-accepted a b w e)
-        ∙ stored-length (seen8088 a) b (withBytes Picture (mendedIn a b w) w) one
-        ∙ with-length Picture (mendedIn a b w) w (mended-sized _ _ (w .bytes Picture) (columns-fit (w .machine)) long ∙ sym long) one
+lengths-stay Draw w one = drawing-lengths w one
+lengths-stay (StoreWithPicture a b) w one = picture-lengths a b w one
+lengths-stay DrawForViewers w one = drawing-lengths w one
+lengths-stay (StoreForViewers a b) w one = picture-lengths a b w one
+lengths-stay (Ask n) w one = refl
 lengths-stay (GlyphPart k) w one = refl
 lengths-stay (DrawLine r s) w one =
     with-length Line _ w

@@ -24,6 +24,9 @@ use Rattle.diagnostic.specs.Diagnostic.{WrittenPort, writtenPort, writeDiagnost
 use Rattle.ports.specs.Ports.{refusalPort, watched, writePort}
 use Rattle.picture.specs.Draw.{refusalDrawing, DrawnPicture, chainOf}
 use Rattle.mending.specs.Store.{StoredWithPicture, refusalWithPicture}
+use Rattle.viewers.specs.Viewers.{refusalAsk}
+use Rattle.viewers.specs.declared.Asked.{Asked}
+use Rattle.viewers.proofs.Laws.{none-added}
 use Rattle.glyphs.specs.Glyphs.{glyphPart, partRefusal}
 use Rattle.scan_line.specs.Call.{refusalLine, DrawnLine}
 use Rattle.whole_screen.specs.Call.{refusalList, Listed}
@@ -31,7 +34,7 @@ use Rattle.explaining.specs.Call.{refusalExplain}
 use Rattle.explaining.specs.Numbers.{told}
 use Rattle.explaining.specs.declared.Why.{Why}
 use Rattle.explaining.proofs.Laws.{why-accepted}
-use Rattle.runs.specs.World.{Shared, Private, Screen, Attribute, Glyphs, Nvm, Shadow, Picture, Line, ScreenList, World, withMachine, withBytes, readAnswer, drawnAnswer, explainedAnswer, Read8088, Store8088, ReadZ80, StoreZ80, ReadShadow, WriteShadow, WritePort, VerticalTick, WatchdogTick, Draw, StoreWithPicture, GlyphPart, DrawLine, ListLines, Explain}
+use Rattle.runs.specs.World.{Shared, Private, Screen, Attribute, Glyphs, Nvm, Shadow, Picture, Line, ScreenList, World, withMachine, withViewers, withBytes, Call, readAnswer, drawnAnswer, explainedAnswer, Read8088, Store8088, ReadZ80, StoreZ80, ReadShadow, WriteShadow, WritePort, VerticalTick, WatchdogTick, Draw, StoreWithPicture, DrawForViewers, StoreForViewers, Ask, GlyphPart, DrawLine, ListLines, Explain, after, answer}
 use Rattle.runs.specs.Refused.{AllZero, ChangesNothing}
 use Rattle.runs.proofs.Worlds.{with-own, left8088, none-stored}
 
@@ -100,6 +103,37 @@ module _ (w : World) where
       (λ _. either KeptPort (eqb port 0x0A) _ _ (λ _. diagnostic-kept code)
       (λ _. either KeptPort (eqb port 0x0C) _ _ (λ _. watched-kept code true) (λ _. watched-kept code false))))
 
+-- what is to be shown of a call
+abbrev Nothing : Call → World → Type 0
+Nothing call w = (answer call w .refusal ≡ accepted → ⊥) → (after call w ≡ w) × AllZero (answer call w .numbers)
+
+drawing-nothing : (w : World) → Nothing Draw w
+drawing-nothing w h =
+    either Kept (refuses (refusalDrawing (w .bytes Screen) (w .bytes Attribute) (w .bytes Picture))) _ _
+    (λ _ g. (with-own Picture (w .bytes Picture) w refl, (refl, (refl, (refl, tt))))) (λ _ g. absurd (g refl)) h
+  where
+    Kept : DrawnPicture → Type 0
+    Kept left =
+        (left .answer .refusal ≡ accepted → ⊥)
+        → (withBytes Picture (left .picture) w ≡ w) × AllZero (drawnAnswer (left .answer) .numbers)
+
+picture-nothing : (a b : ℕ) (w : World) → Nothing (StoreWithPicture a b) w
+picture-nothing a b w h =
+    either Kept (refuses (refusalWithPicture (w .machine) (w .bytes Shared) (w .bytes Screen) (w .bytes Attribute) (w .bytes Picture) a)) _ _
+    (λ _ g. (
+      none-stored _ _ _ 0 (withBytes Picture (w .bytes Picture) w) refl refl refl ∙ with-own Picture (w .bytes Picture) w refl,
+      (refl, tt),
+    ))
+    (λ _ g. absurd (g refl)) h
+  where
+    Kept : StoredWithPicture → Type 0
+    Kept left =
+        (left .answer .refusal ≡ accepted → ⊥)
+        → (withBytes Shared (left .shared)
+        (withBytes Screen (left .screen) (withBytes Attribute (left .attribute) (withBytes Picture (left .picture) w)))
+        ≡ w)
+        × AllZero (left .answer .marks ∷ [])
+
 pub changes-nothing : ChangesNothing
 changes-nothing (Read8088 a) w h =
     (refl, silent (refusal8088 (w .machine) (w .bytes Shared) (w .bytes Screen) (w .bytes Attribute) a) _ h)
@@ -134,29 +168,19 @@ changes-nothing (WriteShadow p b) w h =
 changes-nothing (WritePort p k) w h = (port-kept w p k h, tt)
 changes-nothing VerticalTick w h = absurd (h refl)
 changes-nothing WatchdogTick w h = absurd (h refl)
-changes-nothing Draw w h =
-    either Kept (refuses (refusalDrawing (w .bytes Screen) (w .bytes Attribute) (w .bytes Picture))) _ _
-    (λ _ g. (with-own Picture (w .bytes Picture) w refl, (refl, (refl, (refl, tt))))) (λ _ g. absurd (g refl)) h
+changes-nothing Draw w h = drawing-nothing w h
+changes-nothing (StoreWithPicture a b) w h = picture-nothing a b w h
+changes-nothing DrawForViewers w h =
+    let none = drawing-nothing w h in
+    (rw (ne-eqb (answer Draw w .refusal) accepted h) (ap (withViewers (w .viewers)) (none .0)), none .1)
+changes-nothing (StoreForViewers a b) w h =
+    let none = picture-nothing a b w h in
+    (rw (none .1 .0, none-added (w .viewers)) (ap (withViewers (w .viewers)) (none .0)), none .1)
+changes-nothing (Ask n) w h =
+    either Kept (refuses (refusalAsk n)) _ _ (λ _ g. (refl, (refl, tt))) (λ _ g. absurd (g refl)) h
   where
-    Kept : DrawnPicture → Type 0
-    Kept left =
-        (left .answer .refusal ≡ accepted → ⊥)
-        → (withBytes Picture (left .picture) w ≡ w) × AllZero (drawnAnswer (left .answer) .numbers)
-changes-nothing (StoreWithPicture a b) w h =
-    either Kept (refuses (refusalWithPicture (w .machine) (w .bytes Shared) (w .bytes Screen) (w .bytes Attribute) (w .bytes Picture) a)) _ _
-    (λ _ g. (
-      none-stored _ _ _ 0 (withBytes Picture (w .bytes Picture) w) refl refl refl ∙ with-own Picture (w .bytes Picture) w refl,
-      (refl, tt),
-    ))
-    (λ _ g. absurd (g refl)) h
-  where
-    Kept : StoredWithPicture → Type 0
-    Kept left =
-        (left .answer .refusal ≡ accepted → ⊥)
-        → (withBytes Shared (left .shared)
-        (withBytes Screen (left .screen) (withBytes Attribute (left .attribute) (withBytes Picture (left .picture) w)))
-        ≡ w)
-        × AllZero (left .answer .marks ∷ [])
+    Kept : Asked → Type 0
+    Kept asked = (asked .refusal ≡ accepted → ⊥) → (withViewers (asked .viewers) w ≡ w) × AllZero (asked .marks ∷ [])
 changes-nothing (GlyphPart k) w h = (refl, no-bytes (glyphPart (w .bytes Glyphs) k) h)
 changes-nothing (DrawLine r s) w h =
     either Kept (refuses (refusalLine (w .bytes Picture) (w .bytes Glyphs) r s (w .bytes Line))) _ _

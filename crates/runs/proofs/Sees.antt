@@ -25,10 +25,11 @@ use Rattle.diagnostic.specs.Diagnostic.{WrittenPort}
 use Rattle.ports.specs.Ports.{writePort}
 use Rattle.picture.specs.Draw.{refusalDrawing, refuseDrawing, DrawnPicture, draw}
 use Rattle.mending.specs.Mending.{marksOf}
+use Rattle.viewers.specs.declared.Viewers.{Viewers}
 use Rattle.scan_line.specs.Call.{refusalLine, DrawnLine, drawLine}
 use Rattle.whole_screen.specs.Call.{refusalList, Listed, listLines}
-use Rattle.runs.specs.World.{Memory, Shared, Private, Screen, Attribute, Glyphs, Nvm, Shadow, Picture, Line, ScreenList, isMemory, World, withMachine, withBytes, answered, drawnAnswer, Read8088, Store8088, ReadZ80, StoreZ80, ReadShadow, WriteShadow, WritePort, VerticalTick, WatchdogTick, Draw, StoreWithPicture, GlyphPart, DrawLine, ListLines, Explain, after, answer}
-use Rattle.runs.specs.Reach.{Part, TheMachine, Z80Bit, InReset, Below0800, From0800, AllOf, has, hasMemory, Same, Alike, SeesOnly}
+use Rattle.runs.specs.World.{Memory, Shared, Private, Screen, Attribute, Glyphs, Nvm, Shadow, Picture, Line, ScreenList, isMemory, World, withMachine, withViewers, withBytes, Answer, answered, drawnAnswer, Read8088, Store8088, ReadZ80, StoreZ80, ReadShadow, WriteShadow, WritePort, VerticalTick, WatchdogTick, Draw, StoreWithPicture, DrawForViewers, StoreForViewers, Ask, GlyphPart, DrawLine, ListLines, Explain, after, answer}
+use Rattle.runs.specs.Reach.{Part, TheMachine, Z80Bit, InReset, Below0800, From0800, TheViewers, AllOf, has, hasMemory, Same, Alike, SeesOnly}
 use Rattle.runs.proofs.Worlds.{is-memory, storedIn, refused8088, store-refused, store-accepted, refusedZ80, z80-refused, z80-private, z80-shared, not-below, mendedIn, refusedWithPicture, picture-refused, picture-accepted}
 use Rattle.runs.proofs.Reach.{same-by}
 
@@ -87,6 +88,7 @@ module _ (memory : Memory) (x y : List ℕ) (w v : World) (new : Same (AllOf mem
   with-alike other InReset s = s
   with-alike other Below0800 s = rw other s
   with-alike other From0800 s = rw other s
+  with-alike other TheViewers s = s
   with-alike other (AllOf one) s = whole-alike one s
 
 shared-alike :
@@ -99,6 +101,7 @@ shared-alike place byte w v Below0800 s =
     take-set sharedFrom (w .bytes Shared) place byte ∙ ap (λ (l : List ℕ). set l place byte) s
     ∙ sym (take-set sharedFrom (v .bytes Shared) place byte)
 shared-alike place byte w v From0800 s = set-from (w .bytes Shared) (v .bytes Shared) place byte s
+shared-alike place byte w v TheViewers s = s
 shared-alike place byte w v (AllOf one) s =
     whole-alike Shared _ _ w v (λ e. ap (λ (l : List ℕ). set l place byte) e) one s
 
@@ -155,7 +158,19 @@ machine-alike m n w v new bit reset Z80Bit s = bit s
 machine-alike m n w v new bit reset InReset s = reset s
 machine-alike m n w v new bit reset Below0800 s = s
 machine-alike m n w v new bit reset From0800 s = s
+machine-alike m n w v new bit reset TheViewers s = s
 machine-alike m n w v new bit reset (AllOf memory) s = s
+
+viewers-alike :
+    (x y : Viewers) (w v : World) → (Same TheViewers w v → x ≡ y) → (part : Part) → Same part w v
+    → Same part (withViewers x w) (withViewers y v)
+viewers-alike x y w v new TheMachine s = s
+viewers-alike x y w v new Z80Bit s = s
+viewers-alike x y w v new InReset s = s
+viewers-alike x y w v new Below0800 s = s
+viewers-alike x y w v new From0800 s = s
+viewers-alike x y w v new TheViewers s = new s
+viewers-alike x y w v new (AllOf memory) s = s
 
 -- the number that a call answers is that of its refusal
 pub told :
@@ -256,6 +271,19 @@ module _ (a b : ℕ) (w v : World) (c : Alike (StoreWithPicture a b) w v) where
       (stored-alike (seen8088 a) b drawn drawn′ part
       (with-alike Picture (mendedIn a b w) (mendedIn a b v) w v (λ _. mended-alike) refl part s))
 
+module _ (w v : World) (c : Alike Draw w v) where
+  drawings-answer : answer Draw w ≡ answer Draw v
+  unfolding has hasMemory
+  drawings-answer =
+      rw (c .seen TheMachine refl, c .seen (AllOf Screen) refl, c .seen (AllOf Attribute) refl)
+      (ap drawnAnswer
+      (drawing-alike (v .machine) (v .bytes Screen) (v .bytes Attribute) (w .bytes Picture) (v .bytes Picture) (c .lengths Picture refl)))
+
+  drawings-alike : (part : Part) → Same part w v → Same part (after Draw w) (after Draw v)
+  unfolding has hasMemory
+  drawings-alike =
+      with-alike Picture _ _ w v (λ e. rw (c .seen TheMachine refl, c .seen (AllOf Screen) refl, c .seen (AllOf Attribute) refl, e)) refl
+
 pub sees-only : SeesOnly
 unfolding has hasMemory
 sees-only (Read8088 a) w v c = (
@@ -321,17 +349,27 @@ sees-only VerticalTick w v c = (refl, machine-alike _ _ w v (λ e. ap verticalTi
 sees-only WatchdogTick w v c =
     let same = ap watchdogTick (c .seen TheMachine refl) in
     (refl, machine-alike _ _ w v (λ _. same) (λ _. ap z80Runs same) (λ _. ap (λ (m : Machine). m .reset) same))
-sees-only Draw w v c =
-    let m = c .seen TheMachine refl in
-    let screen = c .seen (AllOf Screen) refl in
-    let attribute = c .seen (AllOf Attribute) refl in (
-      rw (m, screen, attribute)
-          (ap drawnAnswer
-          (drawing-alike (v .machine) (v .bytes Screen) (v .bytes Attribute) (w .bytes Picture) (v .bytes Picture) (c .lengths Picture refl))),
-      with-alike Picture _ _ w v (λ e. rw (m, screen, attribute, e)) refl,
-    )
+sees-only Draw w v c = (drawings-answer w v c, drawings-alike w v c)
 sees-only (StoreWithPicture a b) w v c =
     (picture-answers a b w v c (refusedWithPicture a w) refl, picture-alike a b w v c (refusedWithPicture a w) refl)
+sees-only DrawForViewers w v c =
+    let alike : Alike Draw w v = record { lengths = c .lengths; seen = c .seen } in
+    let same = drawings-answer w v alike in (
+      same,
+      λ part s. viewers-alike _ _ (after Draw w) (after Draw v)
+          (λ e. rw (e, ap (λ (a : Answer). a .refusal) same)) part (drawings-alike w v alike part s),
+    )
+sees-only (StoreForViewers a b) w v c =
+    let alike : Alike (StoreWithPicture a b) w v = record { lengths = c .lengths; seen = c .seen } in
+    let same = picture-answers a b w v alike (refusedWithPicture a w) refl in (
+      same,
+      λ part s. viewers-alike _ _ (after (StoreWithPicture a b) w) (after (StoreWithPicture a b) v)
+          (λ e. rw (e, ap (λ (a : Answer). getD (a .numbers) 0 0) same)) part
+          (picture-alike a b w v alike (refusedWithPicture a w) refl part s),
+    )
+sees-only (Ask n) w v c =
+    let same = c .seen TheViewers refl in
+    (rw same, viewers-alike _ _ w v (λ _. rw same))
 sees-only (GlyphPart k) w v c = (rw (c .seen (AllOf Glyphs) refl), λ part s. s)
 sees-only (DrawLine r s) w v c =
     let m = c .seen TheMachine refl in

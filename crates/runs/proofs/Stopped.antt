@@ -20,7 +20,7 @@ use Rattle.diagnostic.specs.Diagnostic.{WrittenPort, writtenPort}
 use Rattle.ports.specs.Ports.{lengthsNvm}
 use Rattle.ports.proofs.Laws.{port-in-reset}
 use Rattle.mending.specs.Store.{StoredWithPicture}
-use Rattle.runs.specs.World.{Shared, Private, Screen, Attribute, Nvm, Shadow, Picture, World, Call, Read8088, Store8088, ReadZ80, StoreZ80, ReadShadow, WriteShadow, WritePort, VerticalTick, WatchdogTick, Draw, StoreWithPicture, GlyphPart, DrawLine, ListLines, Explain, Answer, answer}
+use Rattle.runs.specs.World.{Shared, Private, Screen, Attribute, Nvm, Shadow, Picture, World, Call, Read8088, Store8088, ReadZ80, StoreZ80, ReadShadow, WriteShadow, WritePort, VerticalTick, WatchdogTick, Draw, StoreWithPicture, DrawForViewers, StoreForViewers, Ask, GlyphPart, DrawLine, ListLines, Explain, Answer, answer}
 use Rattle.runs.specs.Z80.{isZ80}
 use Rattle.runs.specs.Kept.{lending, Step, Made, Lending, stepped}
 use Rattle.runs.specs.Stopped.{Processor, The8088, TheZ80, is8088, isOf, isStopped, stopNumber, callOf, answerOf, steppedAll, stoppedAt, stoppedAtItsCalls, answersOf, allStopped, without, StoppedTouchesNothing}
@@ -88,6 +88,8 @@ module _ (w : World) (reset : w .machine .reset ≡ true) where
       by-access _ a _ (store-refusal (w .machine) (w .bytes Shared) (w .bytes Screen) (w .bytes Attribute) a b)
   stopped-8088 (StoreWithPicture a b) is =
       by-access _ a _ (told (λ (left : StoredWithPicture). left .answer .refusal) _ _ _ refl refl)
+  stopped-8088 (StoreForViewers a b) is =
+      by-access _ a _ (told (λ (left : StoredWithPicture). left .answer .refusal) _ _ _ refl refl)
   stopped-8088 (ReadShadow p) is = by-place p _ (told (λ (read : ByteRead). read .refusal) _ _ _ refl refl)
   stopped-8088 (WriteShadow p b) is = by-place p _ (shadow-told (w .machine) p b (w .bytes Shadow))
   stopped-8088 (WritePort p k) is = by-port p k
@@ -96,6 +98,8 @@ module _ (w : World) (reset : w .machine .reset ≡ true) where
   stopped-8088 VerticalTick is = absurd (false≢true is)
   stopped-8088 WatchdogTick is = absurd (false≢true is)
   stopped-8088 Draw is = absurd (false≢true is)
+  stopped-8088 DrawForViewers is = absurd (false≢true is)
+  stopped-8088 (Ask n) is = absurd (false≢true is)
   stopped-8088 (GlyphPart k) is = absurd (false≢true is)
   stopped-8088 (DrawLine r s) is = absurd (false≢true is)
   stopped-8088 ListLines is = absurd (false≢true is)

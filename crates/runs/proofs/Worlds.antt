@@ -54,7 +54,7 @@ bytes-with P memory one new w f g = go (isMemory one memory) refl
 
 pub with-own : (memory : Memory) (new : List ℕ) (w : World) → new ≡ w .bytes memory → withBytes memory new w ≡ w
 with-own memory new w e =
-    ap (λ (bytes : Memory → List ℕ). record { machine = w .machine; bytes = bytes })
+    ap (λ (bytes : Memory → List ℕ). record { machine = w .machine; viewers = w .viewers; bytes = bytes })
     (fun-ext (λ one. bytes-with (λ (l : List ℕ). l ≡ w .bytes one) memory one new w (λ is. e ∙ ap (w .bytes) (sym is)) (λ _. refl)))
 
 -- the world with the three memories that a store of the 8088 left

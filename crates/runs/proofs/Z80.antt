@@ -19,8 +19,8 @@ use Rattle.ports.specs.Ports.{refusalPort, watched}
 use Rattle.memories.specs.View8088.{seen8088}
 use Rattle.memories.proofs.Laws.{access-by-reset}
 use Rattle.chain.proofs.Searching.{neither}
-use Rattle.runs.specs.World.{Memory, Shared, Private, Screen, Attribute, Glyphs, Nvm, Shadow, Picture, Line, ScreenList, isMemory, World, withBytes, Call, Read8088, Store8088, ReadZ80, StoreZ80, ReadShadow, WriteShadow, WritePort, VerticalTick, WatchdogTick, Draw, StoreWithPicture, GlyphPart, DrawLine, ListLines, Explain, after, answer}
-use Rattle.runs.specs.Reach.{Part, TheMachine, Z80Bit, InReset, Below0800, From0800, AllOf, numberOfPart, has, hasMemory, Same, mayChange, Alike}
+use Rattle.runs.specs.World.{Memory, Shared, Private, Screen, Attribute, Glyphs, Nvm, Shadow, Picture, Line, ScreenList, isMemory, World, withBytes, Call, Read8088, Store8088, ReadZ80, StoreZ80, ReadShadow, WriteShadow, WritePort, VerticalTick, WatchdogTick, Draw, StoreWithPicture, DrawForViewers, StoreForViewers, Ask, GlyphPart, DrawLine, ListLines, Explain, after, answer}
+use Rattle.runs.specs.Reach.{Part, TheMachine, Z80Bit, InReset, Below0800, From0800, TheViewers, AllOf, numberOfPart, has, hasMemory, Same, mayChange, Alike}
 use Rattle.runs.specs.Z80.{onlyParts, onlyMemories, z80Lent, z80Sees, isZ80, ItsTwoCalls, OnlyItsOwn, runsAfter, BitFromCode, CodeHas, Agree, unseenByZ80, Turn, Both, LeftAlone, RightAlone, left, right, answers, SameBit, storesInBoth, SameLengths, SameAnswers, CodesHave, SameBitByCodes}
 use Rattle.runs.proofs.Worlds.{is-memory, mendedIn, refusedWithPicture, picture-refused, picture-accepted}
 use Rattle.runs.proofs.Ports.{dc011-left, watched-held}
@@ -45,6 +45,9 @@ of-z80 P reads stores (WritePort p k) is = absurd (false≢true is)
 of-z80 P reads stores VerticalTick is = absurd (false≢true is)
 of-z80 P reads stores WatchdogTick is = absurd (false≢true is)
 of-z80 P reads stores Draw is = absurd (false≢true is)
+of-z80 P reads stores DrawForViewers is = absurd (false≢true is)
+of-z80 P reads stores (StoreForViewers a b) is = absurd (false≢true is)
+of-z80 P reads stores (Ask n) is = absurd (false≢true is)
 of-z80 P reads stores (StoreWithPicture a b) is = absurd (false≢true is)
 of-z80 P reads stores (GlyphPart k) is = absurd (false≢true is)
 of-z80 P reads stores (DrawLine r s) is = absurd (false≢true is)
@@ -100,6 +103,9 @@ keeps-the-bit (WriteShadow p b) w runs h codes = h
 keeps-the-bit VerticalTick w runs h codes = h
 keeps-the-bit WatchdogTick w runs h codes = tick-runs (w .machine) ∙ h
 keeps-the-bit Draw w runs h codes = h
+keeps-the-bit DrawForViewers w runs h codes = h
+keeps-the-bit (StoreForViewers a b) w runs h codes = h
+keeps-the-bit (Ask n) w runs h codes = h
 keeps-the-bit (GlyphPart k) w runs h codes = h
 keeps-the-bit (DrawLine r s) w runs h codes = h
 keeps-the-bit ListLines w runs h codes = h
@@ -187,6 +193,7 @@ module _ (w v : World) (same : Agree w v) where
   sees-same bit InReset h = absurd (false≢true h)
   sees-same bit Below0800 h = absurd (false≢true h)
   sees-same bit From0800 h = same .from0800
+  sees-same bit TheViewers h = absurd (false≢true h)
   sees-same bit (AllOf Private) h = same .private
   sees-same bit (AllOf Shared) h = absurd (false≢true h)
   sees-same bit (AllOf Screen) h = absurd (false≢true h)
@@ -228,6 +235,9 @@ module _ (w v : World) (same : Agree w v) where
   stores-in-both (StoreWithPicture a b) is un reset lengths =
       after-both (StoreWithPicture a b) (pictures-alike a b w v reset lengths (AllOf Private) (same .private) (same .private))
       (pictures-alike a b w v reset lengths From0800 (same .from0800) (same .from0800))
+  stores-in-both (StoreForViewers a b) is un reset lengths =
+      after-both (StoreForViewers a b) (pictures-alike a b w v reset lengths (AllOf Private) (same .private) (same .private))
+      (pictures-alike a b w v reset lengths From0800 (same .from0800) (same .from0800))
   stores-in-both (ReadZ80 a) is un reset lengths = absurd (true≢false is)
   stores-in-both (StoreZ80 a b) is un reset lengths = absurd (true≢false is)
   stores-in-both (Read8088 a) is un reset lengths = absurd (true≢false un)
@@ -237,6 +247,8 @@ module _ (w v : World) (same : Agree w v) where
   stores-in-both VerticalTick is un reset lengths = absurd (true≢false un)
   stores-in-both WatchdogTick is un reset lengths = absurd (true≢false un)
   stores-in-both Draw is un reset lengths = absurd (true≢false un)
+  stores-in-both DrawForViewers is un reset lengths = absurd (true≢false un)
+  stores-in-both (Ask n) is un reset lengths = absurd (true≢false un)
   stores-in-both (GlyphPart k) is un reset lengths = absurd (true≢false un)
   stores-in-both (DrawLine r s) is un reset lengths = absurd (true≢false un)
   stores-in-both ListLines is un reset lengths = absurd (true≢false un)

@@ -10,3 +10,5 @@ pub mod Held
 pub mod Reset
 pub mod Watchdog
 pub mod Desk
+pub mod Viewers
+pub mod Repainted

@@ -10,16 +10,17 @@ use Rattle.memories.specs.View8088.{seen8088}
 use Rattle.memories.specs.ViewZ80.{sharedFrom}
 use Rattle.memories.specs.declared.view8088.Seen.{Seen}
 use Rattle.memories.specs.declared.view8088.Seen.the-variants.{Shared as InShared, Screen as InScreen, Attribute as InAttribute, Nowhere}
-use Rattle.runs.specs.World.{Memory, Shared, Private, Screen, Attribute, Glyphs, Nvm, Shadow, Picture, Line, ScreenList, numberOf, isMemory, World, Call, Read8088, Store8088, ReadZ80, StoreZ80, ReadShadow, WriteShadow, WritePort, VerticalTick, WatchdogTick, Draw, StoreWithPicture, GlyphPart, DrawLine, ListLines, Explain, after, answer}
+use Rattle.runs.specs.World.{Memory, Shared, Private, Screen, Attribute, Glyphs, Nvm, Shadow, Picture, Line, ScreenList, numberOf, isMemory, World, Call, Read8088, Store8088, ReadZ80, StoreZ80, ReadShadow, WriteShadow, WritePort, VerticalTick, WatchdogTick, Draw, StoreWithPicture, DrawForViewers, StoreForViewers, Ask, GlyphPart, DrawLine, ListLines, Explain, after, answer}
 
 -- a part of the world: the machine, the bit of it by which the Z80 runs, whether the 8088 is in reset, shared memory
--- below 0800 and from there on, or all of a memory
+-- below 0800 and from there on, the viewers, or all of a memory
 pub data Part : Type 0 where
   TheMachine : Part
   Z80Bit : Part
   InReset : Part
   Below0800 : Part
   From0800 : Part
+  TheViewers : Part
   AllOf : Memory → Part
 
 abbrev pub numberOfPart : Part → ℕ
@@ -28,7 +29,8 @@ numberOfPart Z80Bit = 1
 numberOfPart InReset = 2
 numberOfPart Below0800 = 3
 numberOfPart From0800 = 4
-numberOfPart (AllOf memory) = 5 + numberOf memory
+numberOfPart TheViewers = 5
+numberOfPart (AllOf memory) = 6 + numberOf memory
 
 unfoldable pub has : List Part → Part → Bool
 has [] part = false
@@ -45,6 +47,7 @@ Same Z80Bit w v = z80Runs (w .machine) ≡ z80Runs (v .machine)
 Same InReset w v = w .machine .reset ≡ v .machine .reset
 Same Below0800 w v = take sharedFrom (w .bytes Shared) ≡ take sharedFrom (v .bytes Shared)
 Same From0800 w v = drop sharedFrom (w .bytes Shared) ≡ drop sharedFrom (v .bytes Shared)
+Same TheViewers w v = w .viewers ≡ v .viewers
 Same (AllOf memory) w v = w .bytes memory ≡ v .bytes memory
 
 -- what a store of the 8088 may change, by what it sees at the address
@@ -86,6 +89,13 @@ reach Draw =
 reach (StoreWithPicture address byte) =
     reaches (Picture ∷ memories8088) (TheMachine ∷ AllOf Screen ∷ AllOf Attribute ∷ AllOf Picture ∷ [])
     (AllOf Picture ∷ storedAt (seen8088 address))
+reach DrawForViewers =
+    reaches (Screen ∷ Attribute ∷ Picture ∷ []) (TheMachine ∷ AllOf Screen ∷ AllOf Attribute ∷ [])
+    (TheViewers ∷ AllOf Picture ∷ [])
+reach (StoreForViewers address byte) =
+    reaches (Picture ∷ memories8088) (TheMachine ∷ AllOf Screen ∷ AllOf Attribute ∷ AllOf Picture ∷ [])
+    (TheViewers ∷ AllOf Picture ∷ storedAt (seen8088 address))
+reach (Ask viewer) = reaches [] (TheViewers ∷ []) (TheViewers ∷ [])
 reach (GlyphPart code) = reaches (Glyphs ∷ []) (AllOf Glyphs ∷ []) []
 reach (DrawLine row scan) =
     reaches (Picture ∷ Glyphs ∷ Line ∷ []) (TheMachine ∷ AllOf Picture ∷ AllOf Glyphs ∷ []) (AllOf Line ∷ [])

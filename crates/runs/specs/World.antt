@@ -15,6 +15,9 @@ use Rattle.ports.specs.Ports.{writePort}
 use Rattle.picture.specs.Draw.{draw}
 use Rattle.picture.specs.declared.Drawn.{Drawn}
 use Rattle.mending.specs.Store.{storeWithPicture}
+use Rattle.viewers.specs.Viewers.{ask}
+use Rattle.viewers.specs.Serving.{drawForViewers, storeForViewers}
+use Rattle.viewers.specs.declared.Viewers.{Viewers}
 use Rattle.glyphs.specs.Glyphs.{glyphPart, partRefusal}
 use Rattle.scan_line.specs.Call.{drawLine}
 use Rattle.whole_screen.specs.Call.{listLines}
@@ -51,18 +54,26 @@ numberOf ScreenList = 9
 abbrev pub isMemory : (one other : Memory) → Bool
 isMemory one other = eqb (numberOf one) (numberOf other)
 
--- the machine and the memories that a user keeps and lends
+-- the machine and the viewers that a user keeps, and the memories that it keeps and lends
 pub record World : Type 0 where
   pub machine : Machine
+  pub viewers : Viewers
   pub bytes : Memory → List ℕ
 
--- the world with another machine, and with other bytes in one memory
+-- the world with another machine, with other viewers, and with other bytes in one memory
 abbrev pub withMachine : Machine → World → World
-withMachine machine w = record { machine = machine; bytes = w .bytes }
+withMachine machine w = record { machine = machine; viewers = w .viewers; bytes = w .bytes }
+
+abbrev pub withViewers : Viewers → World → World
+withViewers viewers w = record { machine = w .machine; viewers = viewers; bytes = w .bytes }
 
 abbrev pub withBytes : Memory → (new : List ℕ) → World → World
 withBytes memory new w =
-    record { machine = w .machine; bytes = λ one. cond (isMemory one memory) new (w .bytes one) }
+    record {
+      machine = w .machine;
+      viewers = w .viewers;
+      bytes = λ one. cond (isMemory one memory) new (w .bytes one);
+    }
 
 -- a call with its numbers
 pub data Call : Type 0 where
@@ -77,6 +88,9 @@ pub data Call : Type 0 where
   WatchdogTick : Call
   Draw : Call
   StoreWithPicture : (address byte : ℕ) → Call
+  DrawForViewers : Call
+  StoreForViewers : (address byte : ℕ) → Call
+  Ask : (viewer : ℕ) → Call
   GlyphPart : (code : ℕ) → Call
   DrawLine : (row scan : ℕ) → Call
   ListLines : Call
@@ -143,6 +157,21 @@ outcome (StoreWithPicture address byte) w =
     leaving (answered (left .answer .refusal) (left .answer .marks ∷ []))
     (withBytes Shared (left .shared)
     (withBytes Screen (left .screen) (withBytes Attribute (left .attribute) (withBytes Picture (left .picture) w))))
+outcome DrawForViewers w =
+    let left = drawForViewers (w .machine) (w .viewers) (w .bytes Screen) (w .bytes Attribute) (w .bytes Picture) in
+    leaving (drawnAnswer (left .answer .drawn))
+    (withViewers (left .answer .viewers) (withBytes Picture (left .picture) w))
+outcome (StoreForViewers address byte) w =
+    let left =
+    storeForViewers (w .machine) (w .viewers)
+    (w .bytes Shared) (w .bytes Screen) (w .bytes Attribute) (w .bytes Picture) address byte in
+    leaving (answered (left .answer .stored .refusal) (left .answer .stored .marks ∷ []))
+    (withViewers (left .answer .viewers)
+    (withBytes Shared (left .shared)
+    (withBytes Screen (left .screen) (withBytes Attribute (left .attribute) (withBytes Picture (left .picture) w)))))
+outcome (Ask viewer) w =
+    let asked = ask (w .viewers) viewer in
+    leaving (answered (asked .refusal) (asked .marks ∷ [])) (withViewers (asked .viewers) w)
 outcome (GlyphPart code) w =
     let part = glyphPart (w .bytes Glyphs) code in
     leaving (answered (partRefusal part) part) w

@@ -21,9 +21,8 @@ fn help() {
     println!("chosen by the seed S, and compares each with a model of documents 01 and 02. Ahead of them come the");
     println!("lists of the whole screen with every one or two runs of rows that scroll, and some millions of ticks of");
     println!("the watchdog's clock, with codes between them; after them every cell of some hundred screens is");
-    println!(
-        "explained, at both settings, and stored into; fewer of all these if N is under 1000000."
-    );
+    println!("explained, at both settings, and stored into, and some hundred long runs are made in which eight viewers");
+    println!("ask; fewer of all these if N is under 1000000.");
     println!("LIBRARY is a librainbow.so, or run: and a command that serves its calls, as host/serve.c does.");
     println!("--against: makes each call of a second library too, and compares it with the first.");
     println!("Exit status: 0 no difference, 1 a difference, whose shortest script is printed, 2 bad arguments.");
@@ -112,6 +111,7 @@ fn print_tally(tally: &Tally, seconds: f64) {
     println!("{:<20}{at_rest:>9}", "lists: at rest");
     println!("{:<20}{scrolled:>9}", "lists: scrolled");
     print_explained(tally);
+    print_told(tally);
 }
 
 fn print_explained(tally: &Tally) {
@@ -139,10 +139,29 @@ fn print_explained(tally: &Tally) {
     }
 }
 
-/// The desk's promise has to be tried, and stores for which there is none.
-fn is_tried(tally: &Tally) -> bool {
+fn print_told(tally: &Tally) {
+    let names = [
+        "viewers handed rows",
+        "viewers handed no row",
+        "a viewer's copy beside the kept picture",
+        "a viewer's copy beside a fresh picture",
+        "answers beside a run where no other viewer asks",
+    ];
+    for (name, times) in names.into_iter().zip(tally.told.counts()) {
+        println!("{name:<48}{times:>9}");
+    }
+}
+
+/// What was not tried: the desk's promise, stores for which there is none, or something of the viewers.
+fn untried(tally: &Tally) -> Option<&'static str> {
     let promises = &tally.promises;
-    promises.tried > 0 && promises.read_earlier > 0
+    if promises.tried == 0 || promises.read_earlier == 0 {
+        return Some("the place of a cell was never stored into, with and without an earlier row that reads it");
+    }
+    let told = tally.told.counts().contains(&0);
+    told.then_some(
+        "a viewer was never handed rows, or none, or its copy or its answers were never compared",
+    )
 }
 
 fn main() {
@@ -162,8 +181,8 @@ fn main() {
     match load(asked.calls, seed, tried) {
         Ok(tally) => {
             print_tally(&tally, begun.elapsed().as_secs_f64());
-            if !is_tried(&tally) {
-                give_up("the place of a cell was never stored into, with and without an earlier row that reads it");
+            if let Some(why) = untried(&tally) {
+                give_up(why);
             }
         }
         Err(script) => {

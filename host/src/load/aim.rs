@@ -155,3 +155,15 @@ pub fn z80(chance: &mut Chance) -> u16 {
         _ => chance.below(0x10000) as u16,
     }
 }
+
+const HUGE: [usize; 4] = [usize::MAX, usize::MAX / 2, 1 << 32, 1 << 63];
+
+/// A number that is most often under `n`, sometimes beside it, seldom far from it.
+pub fn about(chance: &mut Chance, n: usize) -> usize {
+    match chance.below(16) {
+        0 => n - chance.below(2),
+        1 => chance.of(&HUGE),
+        2 => n + chance.below(10),
+        _ => chance.below(n),
+    }
+}

@@ -3,7 +3,7 @@ use crate::chain::PICTURE;
 use crate::dots::{GLYPHS, LINE};
 use crate::machine::Machine;
 use crate::memories::{ATTRIBUTE, NVM, PRIVATE, SCREEN, SHADOW, SHARED};
-use crate::rainbow::FUNCTIONS;
+use crate::rainbow::{Waiting, FUNCTIONS};
 use crate::screen::LIST;
 
 /// A lent buffer. `Spare` is a second picture, to draw afresh beside the kept one.
@@ -106,7 +106,7 @@ impl Lengths {
     }
 }
 
-/// A call with its numbers. A watchdog tick is so many calls, one after the other. The last four are no calls but
+/// A call with its numbers. A watchdog tick is so many calls, one after the other. The last five are no calls but
 /// changes that the caller makes by hand.
 #[derive(Clone, Copy, Debug, PartialEq, Eq)]
 pub enum Call {
@@ -135,7 +135,12 @@ pub enum Call {
     ScanLine { row: usize, scan: usize },
     ListLines,
     Explain { row: usize, column: usize },
+    StartViewers,
+    Ask { viewer: usize },
+    DrawForViewers,
+    StoreForViewers { address: u32, byte: u8 },
     SetMachine(Machine),
+    SetViewers(Waiting),
     AlterPicture { place: usize, byte: u8 },
     StrewPicture { seed: u64 },
     OtherPicture { seed: u64 },
@@ -169,6 +174,10 @@ impl Call {
             Self::ScanLine { .. } => "scan_line",
             Self::ListLines => "list_lines",
             Self::Explain { .. } => "explain",
+            Self::StartViewers => "start_viewers",
+            Self::Ask { .. } => "ask",
+            Self::DrawForViewers => "draw_for_viewers",
+            Self::StoreForViewers { .. } => "store_for_viewers",
             _ => return None,
         };
         FUNCTIONS.iter().position(|known| *known == name)
@@ -193,6 +202,16 @@ impl Call {
                 | ReadShadow { .. }
                 | WriteShadow { .. }
                 | StoreWithPicture { .. }
+                | StoreForViewers { .. }
+        )
+    }
+
+    /// Whether viewers come back from it.
+    pub fn has_viewers(&self) -> bool {
+        use Call::*;
+        matches!(
+            self,
+            StartViewers | Ask { .. } | DrawForViewers | StoreForViewers { .. }
         )
     }
 
@@ -204,9 +223,11 @@ impl Call {
             Self::Read8088 { .. } | Self::Store8088 { .. } => &[Shared, Screen, Attribute],
             Self::ReadZ80 { .. } | Self::StoreZ80 { .. } => &[Private, Shared],
             Self::ReadShadow { .. } | Self::WriteShadow { .. } => &[Shadow],
-            Self::Draw => &[Screen, Attribute, Picture],
+            Self::Draw | Self::DrawForViewers => &[Screen, Attribute, Picture],
             Self::DrawAfresh => &[Screen, Attribute, Spare],
-            Self::StoreWithPicture { .. } => &[Shared, Screen, Attribute, Picture],
+            Self::StoreWithPicture { .. } | Self::StoreForViewers { .. } => {
+                &[Shared, Screen, Attribute, Picture]
+            }
             Self::GlyphPart { .. } => &[Table],
             Self::ScanLine { .. } => &[Picture, Table, Line],
             Self::ListLines => &[Picture, List],

@@ -1,5 +1,5 @@
 //! Chooses the next call, most often one that is hard to answer.
-use super::aim;
+use super::aim::{self, about};
 use super::call::{Call, Lent, Step, WRONG_LENGTHS};
 use super::model::Model;
 use super::sides::Sides;
@@ -10,6 +10,7 @@ use crate::dots::{SCANS, UNDERLINE_SCAN};
 use crate::hard::Chance;
 use crate::memories::SHADOW;
 use crate::mending::MARK_BITS;
+use crate::viewers::VIEWERS;
 
 /// How the calls of a run are chosen.
 #[derive(Clone, Copy, PartialEq, Eq)]
@@ -49,10 +50,14 @@ enum Choice {
     Part,
     Line,
     Explain,
+    Ask,
+    StoredForViewers,
 }
 
-const CHOICES: [(usize, Choice); 25] = [
-    (260, Choice::Stored),
+const CHOICES: [(usize, Choice); 29] = [
+    (180, Choice::Stored),
+    (120, Choice::StoredForViewers),
+    (90, Choice::Ask),
     (120, Choice::Port),
     (60, Choice::Read8088),
     (60, Choice::Line),
@@ -66,6 +71,8 @@ const CHOICES: [(usize, Choice); 25] = [
     (40, Choice::Part),
     (60, Choice::Store8088),
     (30, Choice::Plain(Call::Draw)),
+    (30, Choice::Plain(Call::DrawForViewers)),
+    (10, Choice::Plain(Call::StartViewers)),
     (30, Choice::Plain(Call::DrawAfresh)),
     (28, Choice::Plain(Call::Version)),
     (28, Choice::Plain(Call::PowerUp)),
@@ -130,25 +137,14 @@ fn about_the_z80(chance: &mut Chance) -> Call {
     }
 }
 
-const HUGE: [usize; 4] = [usize::MAX, usize::MAX / 2, 1 << 32, 1 << 63];
-
-/// A number that is most often under `n`, sometimes beside it, seldom far from it.
-fn about(chance: &mut Chance, n: usize) -> usize {
-    match chance.below(16) {
-        0 => n - chance.below(2),
-        1 => chance.of(&HUGE),
-        2 => n + chance.below(10),
-        _ => chance.below(n),
-    }
-}
-
 /// A change by hand: of the machine, or one that makes the picture untrue.
 fn by_hand(chance: &mut Chance) -> Call {
     let seed = chance.below(1 << 40) as u64 | 1;
-    match chance.below(8) {
+    match chance.below(10) {
         0 => Call::StrewPicture { seed },
         1 => Call::OtherPicture { seed },
         2 | 3 => Call::SetMachine(world::machine(chance)),
+        4 | 5 => Call::SetViewers(world::viewers(chance)),
         _ => Call::AlterPicture {
             place: chance.below(PICTURE),
             byte: chance.byte(),
@@ -205,6 +201,10 @@ fn call(chance: &mut Chance, model: &Model, choice: Choice) -> Call {
             let (address, byte) = aim::store(chance, model);
             Call::StoreWithPicture { address, byte }
         }
+        Choice::StoredForViewers => {
+            let (address, byte) = aim::store(chance, model);
+            Call::StoreForViewers { address, byte }
+        }
         Choice::Explain => explain(chance, model),
         Choice::ReadZ80 => Call::ReadZ80 {
             address: aim::z80(chance),
@@ -233,9 +233,12 @@ fn explain(chance: &mut Chance, model: &Model) -> Call {
     }
 }
 
-/// A call by row, scan, place or code.
+/// A call by row, scan, place, viewer or code.
 fn numbered(chance: &mut Chance, choice: Choice) -> Call {
     match choice {
+        Choice::Ask => Call::Ask {
+            viewer: about(chance, VIEWERS),
+        },
         Choice::ReadShadow => Call::ReadShadow {
             place: about(chance, SHADOW),
         },
@@ -265,7 +268,7 @@ fn numbered(chance: &mut Chance, choice: Choice) -> Call {
 pub fn step(chance: &mut Chance, sides: &Sides, way: Way) -> Step {
     let true_run = way == Way::True;
     if true_run && !sides.kept {
-        return Call::Draw.into();
+        return chance.of(&[Call::Draw, Call::DrawForViewers]).into();
     }
     if !true_run && chance.below(60) == 0 {
         return by_hand(chance).into();

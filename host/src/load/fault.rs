@@ -4,69 +4,18 @@ use super::library::Library;
 use super::list_fault;
 use super::model::Model;
 use super::seen::mirrored;
+use super::viewer_fault;
 use super::why_fault;
 use crate::chain::{wild_rows, PAIRS_AT, PICTURE, PLACES, RECORD, ROWS};
 use crate::dots::SCANS;
 use crate::machine::Machine;
-use crate::rainbow::{Seen, Wild, CELL};
+use crate::rainbow::{Seen, Waiting, Wild, CELL};
 use crate::screen::LIST;
+use crate::viewers::Viewers;
 
 /// Which fault is put in; 0 is none.
 #[derive(Clone, Copy, Debug, PartialEq, Eq)]
 pub struct Fault(pub usize);
-
-pub const FAULTS: [&str; 50] = [
-    "row 0's link is taken high byte first",
-    "row 24 is never marked",
-    "the Z80's private memory ends a byte later",
-    "codes 04 to 07 load the latch's low bits",
-    "scan 9 is not underlined",
-    "a refused call changes a byte",
-    "the read count is one too high",
-    "the mend stops at the first row that changed",
-    "the byte after the picture changes in a drawing",
-    "a drawing leaves a wrong byte in row 24, on both sides",
-    "a store marks row 0 too, on both sides",
-    "at 132 columns, 50 Hz, latch 9, reversed, blinking, with an interrupt, it is blanked",
-    "the scroll latch is not taken modulo 16",
-    "the second library has 1,187 dots in a line at 132 columns (with --against)",
-    "the last wild row is named",
-    "row 0 is named where no link is wild",
-    "the Z80 runs while bit 0 of port 0A is 0, and is held while it is 1",
-    "the Z80 runs while bit 1 of port 0A is 1",
-    "the Z80 is held ahead of a wrong length: 7, not 1",
-    "a held Z80 is refused its reads, but not its stores",
-    "a held Z80 stores, and is then refused by 7",
-    "the watchdog's reset begins and ends at the 127th tick",
-    "the watchdog's reset begins and ends at the 129th tick",
-    "the count is kept while the watchdog is disabled",
-    "any accepted code to 0C sets the count to 0",
-    "the end of reset disables the watchdog",
-    "code 09 is accepted in reset, and ends it",
-    "the shadow is read in reset",
-    "an address that the 8088 does not see is refused ahead of its reset: 2, not 8",
-    "the 8088's reset is told ahead of a wrong length: 8, not 1",
-    "a vertical tick is a tick of the watchdog's clock too",
-    "code 08 to 0C sets the count to 0, on both sides",
-    "the last run of rows that scroll is taken",
-    "the run's first row loses its bottom scans",
-    "the run's first row loses 10 less L scans, and its last row L",
-    "a run of one row shows in full",
-    "with L 0 the run scrolls, so that row 24 shows",
-    "the whole screen's latch is not taken modulo 16",
-    "row 24 does not show while a run scrolls",
-    "a latch over 9 is refused only where there is a run",
-    "the last line of the list has scan 11, on both sides",
-    "fill is told ahead of past",
-    "the link is told by the place of its high byte",
-    "a cell's place is not taken modulo 4,096",
-    "a cell's kind is that of the row before, which carries the link",
-    "a dark row is said to have torn itself",
-    "of a dark row the row before the one that tore is named",
-    "a link is said to lead to row 0",
-    "a cell's place is told one too high, on both sides",
-    "a row over 24 or a column over 131 is told ahead of a wrong length: 5, not 1",
-];
 
 impl Fault {
     /// The model's answer, with the fault.
@@ -90,6 +39,7 @@ impl Fault {
             (27, Call::WritePort { code: 0x09, .. }) => ended_by(model, call),
             (28, Call::ReadShadow { .. }) => out_of_reset(model, call),
             (33..=40, Call::ListLines) => list_fault::call(self.0, model),
+            (51..=61, _) if call.has_viewers() => viewer_fault::call(self.0, model, call),
             (42..=48 | 50, Call::Explain { row, column }) => {
                 why_fault::call(self.0, model, *row, *column)
             }
@@ -184,6 +134,20 @@ impl Fault {
                 model.machine.count = 0;
             }
             _ => {}
+        }
+    }
+
+    /// A fault that every side has in the viewers that came back.
+    pub fn of_viewers(self, call: &Call, seen: &Seen, viewers: &mut Waiting) {
+        viewer_fault::on_both_sides(self.0, call, seen, viewers);
+    }
+
+    /// The same in the model's viewers.
+    pub fn of_model(self, call: &Call, seen: &Seen, model: &mut Model) {
+        let mut numbers = model.viewers.numbers();
+        self.of_viewers(call, seen, &mut numbers);
+        if numbers != model.viewers.numbers() {
+            model.viewers = Viewers::given(numbers);
         }
     }
 

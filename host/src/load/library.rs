@@ -4,7 +4,7 @@ use super::model::Model;
 use super::seen::mirrored;
 use super::words::numbers;
 use crate::chain::RECORD;
-use crate::rainbow::{self, Request, Seen};
+use crate::rainbow::{self, Request, Seen, Waiting};
 
 const GUARD: usize = 64;
 
@@ -71,15 +71,17 @@ impl Guarded {
 pub struct Library {
     pub buffers: [Guarded; BUFFERS.len()],
     pub machine: rainbow::Machine,
+    pub viewers: Waiting,
     calls: &'static rainbow::Library,
 }
 
 impl Library {
-    /// The model's memories and machine again.
+    /// The model's memories, machine and viewers again.
     pub fn new(model: &Model, calls: &'static rainbow::Library) -> Self {
         Self {
             buffers: BUFFERS.map(|buffer| Guarded::new(buffer, model.bytes(buffer))),
             machine: mirrored(&model.machine),
+            viewers: model.viewers.numbers(),
             calls,
         }
     }
@@ -88,7 +90,7 @@ impl Library {
         self.buffers[buffer as usize].content()
     }
 
-    /// Makes the call once. A machine that comes back is the machine from then on, but for power-up's.
+    /// Makes the call once. A machine that comes back is the machine from then on, but for power-up's; so are viewers.
     pub fn call(&mut self, step: &Step) -> Result<Seen, String> {
         let function = step.call.function().expect("a call of the library");
         let mut given = [0; 2];
@@ -104,11 +106,15 @@ impl Library {
         let seen = self.calls.call(Request {
             function,
             machine: self.machine,
+            viewers: self.viewers,
             lent: lent.collect(),
             numbers: given,
         })?;
         if let Call::VerticalTick | Call::WatchdogTick { .. } | Call::WritePort { .. } = step.call {
             self.machine = seen.machine;
+        }
+        if step.call.has_viewers() {
+            self.viewers = seen.viewers;
         }
         Ok(seen)
     }

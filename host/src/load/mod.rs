@@ -3,8 +3,11 @@
 mod aim;
 mod call;
 mod choose;
+mod copies;
+mod demands;
 mod desk;
 mod fault;
+mod faults;
 mod library;
 mod list_fault;
 mod list_sweep;
@@ -13,6 +16,8 @@ mod seen;
 mod shrink;
 mod sides;
 mod sweep;
+mod viewer_fault;
+mod viewer_sweep;
 mod watch_runs;
 mod watch_sweep;
 mod why_fault;
@@ -20,7 +25,8 @@ mod why_sweep;
 mod words;
 mod world;
 
-pub use fault::{Fault, FAULTS};
+pub use fault::Fault;
+pub use faults::FAULTS;
 pub use shrink::Script;
 pub use sides::Tried;
 
@@ -31,15 +37,17 @@ use crate::machine::Machine;
 use crate::rainbow::{Seen, FUNCTIONS};
 use crate::REFUSALS;
 use call::{Call, Step};
+use copies::Told;
 use desk::Promises;
-use sides::{Sides, Watched};
+use sides::Sides;
 use std::thread::spawn;
-use watch_runs::MANNERS;
+use watch_runs::{Watched, MANNERS};
 use world::World;
 
 /// How many calls there were of each function, how many were answered by each number of refusal, of all and of the
 /// Z80's, how many drawings named each row, how many lists there were of a screen at rest and of one that scrolls, how
-/// many cells were explained by each answer, how often the desk's promise was tried, and what the watchdog did.
+/// many cells were explained by each answer, how often the desk's promise was tried, what viewers were told, and what
+/// the watchdog did.
 #[derive(Default)]
 pub struct Tally {
     pub calls: [u64; FUNCTIONS.len()],
@@ -54,6 +62,7 @@ pub struct Tally {
     /// By the number of the answer; 0 are the refused ones.
     pub explained: [u64; 5],
     pub promises: Promises,
+    pub told: Told,
     pub watched: Watched,
 }
 
@@ -73,7 +82,7 @@ impl Tally {
         if let Call::ReadZ80 { .. } | Call::StoreZ80 { .. } = call {
             self.z80[usize::from(answer.refusal)] += 1;
         }
-        if let (Call::Draw | Call::DrawAfresh, 0) = (call, answer.refusal) {
+        if let (Call::Draw | Call::DrawAfresh | Call::DrawForViewers, 0) = (call, answer.refusal) {
             let named = answer.wild.there != 0;
             self.drawings[if named { answer.wild.row.into() } else { ROWS }] += 1;
         }
@@ -99,6 +108,7 @@ impl Tally {
         let explained = self.explained.iter_mut().zip(other.explained);
         explained.for_each(|(sum, answers)| *sum += answers);
         self.promises.add(&other.promises);
+        self.told.add(&other.told);
         self.watched.add(&other.watched);
     }
 }
@@ -147,6 +157,7 @@ impl<'a> Run<'a> {
         self.sides.compare_all().map_err(|_| self.script())?;
         self.tally.watched.add(&self.sides.watched);
         self.tally.promises.add(&self.sides.promises);
+        self.tally.told.add(&self.sides.copies.told);
         Ok(())
     }
 
@@ -159,19 +170,23 @@ impl<'a> Run<'a> {
 /// As many run at once, each on buffers of its own, which the header allows.
 const THREADS: u64 = 2;
 
-/// Where fewer calls than these are asked for, there is less of the whole screen, of the watchdog and of the cells too:
-/// these alone take some millions.
+/// Where fewer calls than these are asked for, there is less of the whole screen, of the watchdog, of the cells and of
+/// the viewers too: these alone take some millions.
 const WHOLE: u64 = 1_000_000;
 
 /// The screens of which every cell is explained, at both settings, and of each thread at least.
 const SCREENS: usize = 400;
 const LEAST_SCREENS: usize = 4;
 
+/// The long runs in which viewers ask, and of each thread at least.
+const VIEWER_RUNS: usize = 400;
+const LEAST_VIEWER_RUNS: usize = 4;
+
 /// The ticks of each long run of the watchdog.
 const RUN_TICKS: u64 = 250_000;
 
-/// Makes the calls of the sweeps and those of the watchdog, then calls by chance, and then explains every cell of many
-/// screens. Of the first sweep and by chance there are so many.
+/// Makes the calls of the sweeps and those of the watchdog, then calls by chance, then explains every cell of many
+/// screens, and then makes the long runs in which viewers ask. Of the first sweep and by chance there are so many.
 pub fn load(calls: u64, seed: u64, tried: Tried) -> Result<Tally, Script> {
     let mut chance = Chance(seed);
     let mut tally = sweep_all(sweep::pieces(), &mut chance, tried)?;
@@ -188,6 +203,8 @@ pub fn load(calls: u64, seed: u64, tried: Tried) -> Result<Tally, Script> {
                 let mut tally = by_chance(each, chance, tried)?;
                 let screens = (SCREENS / THREADS as usize / every).max(LEAST_SCREENS);
                 tally.add(&why_sweep::screens(screens, chance, tried)?);
+                let runs = (VIEWER_RUNS / THREADS as usize / every).max(LEAST_VIEWER_RUNS);
+                tally.add(&viewer_sweep::runs(runs, chance, tried)?);
                 Ok(tally)
             })
         })

@@ -2,13 +2,14 @@
 use super::call::{Buffer, Call, Lengths, Step, BUFFERS};
 use super::fault::Fault;
 use super::library::guard;
-use super::seen::mirrored;
+use super::seen::{mirrored, seen, seen_drawn, seen_explained};
 use crate::chain::{self, Drawn, PICTURE};
 use crate::dots;
 use crate::machine::Machine;
 use crate::memories::{self, View8088};
-use crate::rainbow::{self, Explained, Seen, Wild, CELL, DARK, FILL, PAST};
-use crate::why::{Led, Walk, Why};
+use crate::rainbow::{self, Seen};
+use crate::viewers::Viewers;
+use crate::why::{Walk, Why};
 use crate::{mending, refusal, screen, Answer};
 
 #[derive(Clone)]
@@ -22,89 +23,10 @@ pub struct Model {
     pub line: Vec<u8>,
     pub list: Vec<u8>,
     pub spare: Vec<u8>,
+    pub viewers: Viewers,
     pub machine: Machine,
     /// The walk that was asked last, since many cells of it may be asked one after the other.
     pub walk: Walk,
-}
-
-fn seen<T: TryInto<u64>>(answer: Answer<T>) -> Seen {
-    match answer {
-        Ok(value) => Seen::value(value),
-        Err(number) => Seen::refusal(number),
-    }
-}
-
-/// What a drawing answers: no row is named where no link is wild, nor where the call is refused.
-fn seen_drawn(answer: Answer<Drawn>) -> Seen {
-    let wild = answer.as_ref().map_or(None, |drawn| drawn.wild);
-    Seen {
-        wild: wild.map_or(Wild::default(), Wild::named),
-        ..seen(answer.map(|drawn| drawn.reads))
-    }
-}
-
-/// What is said of a cell, as numbers: what an answer does not have is 0.
-fn seen_explained(answer: Answer<Why>) -> Seen {
-    let why = match answer {
-        Ok(why) => why,
-        Err(number) => return Seen::refusal(number),
-    };
-    let none = Explained::default();
-    let (led, explained) = match why {
-        Why::Cell { place, kind, led } => {
-            let (answer, place) = (CELL, place as u16);
-            (
-                led,
-                Explained {
-                    answer,
-                    place,
-                    kind,
-                    ..none
-                },
-            )
-        }
-        Why::Fill { place, led } => {
-            let (answer, place) = (FILL, place as u16);
-            (
-                led,
-                Explained {
-                    answer,
-                    place,
-                    ..none
-                },
-            )
-        }
-        Why::Past { led } => (
-            led,
-            Explained {
-                answer: PAST,
-                ..none
-            },
-        ),
-        Why::Dark { tore } => {
-            let (answer, tore) = (DARK, tore as u8);
-            (
-                Led::Row0,
-                Explained {
-                    answer,
-                    tore,
-                    ..none
-                },
-            )
-        }
-    };
-    let (linked, link) = match led {
-        Led::Row0 => (0, 0),
-        Led::Link(place) => (1, place as u16),
-    };
-    Seen {
-        explained: Explained {
-            linked,
-            link,
-            ..explained
-        },
-        ..Seen::refusal(0)
-    }
 }
 
 impl Model {
@@ -149,6 +71,7 @@ impl Model {
         lent.resize(&step.lent);
         let seen = fault.call(&mut lent, &step.call);
         self.machine = lent.machine;
+        self.viewers = lent.viewers.clone();
         for buffer in BUFFERS {
             let from = lent.bytes(buffer);
             let same = from.len().min(buffer.listed());
@@ -188,7 +111,39 @@ impl Model {
             Call::ScrollLatch => Seen::value(machine.scroll_latch()),
             Call::DotsOfLine => Seen::value(dots::line_dots(&machine)),
             Call::IsMarked { marks, row } => Seen::value(mending::is_marked(marks, row)),
+            _ if call.has_viewers() => {
+                let seen = self.serving_call(call);
+                let viewers = self.viewers.numbers();
+                Seen { viewers, ..seen }
+            }
             _ => self.lending_call(call),
+        }
+    }
+
+    /// A call that serves viewers: a refused one leaves them as they were.
+    fn serving_call(&mut self, call: &Call) -> Seen {
+        match *call {
+            Call::StartViewers => {
+                self.viewers = Viewers::start();
+                Seen::default()
+            }
+            Call::Ask { viewer } => seen(self.viewers.ask(viewer)),
+            Call::DrawForViewers => {
+                let drawn = self.draw(Buffer::Picture);
+                if drawn.is_ok() {
+                    self.viewers.drawn();
+                }
+                seen_drawn(drawn)
+            }
+            Call::StoreForViewers { address, byte } => {
+                let (view, picture) = (&mut self.view, &mut self.picture);
+                let stored = mending::store(view, picture, &self.machine, address, byte);
+                if let Ok(marks) = stored {
+                    self.viewers.stored(marks);
+                }
+                seen(stored)
+            }
+            _ => unreachable!("no call that serves viewers: {call:?}"),
         }
     }
 

@@ -1,6 +1,9 @@
-//! Two answers compared, and the model's machine as a library has it.
+//! Two answers compared, and the model's answers and its machine as a library has them.
+use crate::chain::Drawn;
 use crate::machine::Machine;
-use crate::rainbow::{self, Explained, Seen};
+use crate::rainbow::{self, Explained, Seen, Wild, CELL, DARK, FILL, PAST};
+use crate::why::{Led, Why};
+use crate::Answer;
 
 impl Seen {
     /// The first part in which this answer differs from another. `sides` are the names of the other and of this one.
@@ -32,6 +35,12 @@ impl Seen {
         if let Some((name, mine, theirs)) = differs {
             return Some(format!(
                 "the {name} answered: {that} {theirs:X}, {this} {mine:X}"
+            ));
+        }
+        if self.viewers != other.viewers {
+            let (theirs, mine) = (other.viewers, self.viewers);
+            return Some(format!(
+                "the viewers answered:\n  {that} {theirs:X?}\n  {this} {mine:X?}"
             ));
         }
         (self.machine != other.machine).then(|| {
@@ -70,5 +79,86 @@ pub fn mirrored(machine: &Machine) -> rainbow::Machine {
         count: machine.count,
         reset: machine.reset.into(),
         held: machine.held,
+    }
+}
+
+/// An answer of the model as a library has it.
+pub fn seen<T: TryInto<u64>>(answer: Answer<T>) -> Seen {
+    match answer {
+        Ok(value) => Seen::value(value),
+        Err(number) => Seen::refusal(number),
+    }
+}
+
+/// What a drawing answers: no row is named where no link is wild, nor where the call is refused.
+pub fn seen_drawn(answer: Answer<Drawn>) -> Seen {
+    let wild = answer.as_ref().map_or(None, |drawn| drawn.wild);
+    Seen {
+        wild: wild.map_or(Wild::default(), Wild::named),
+        ..seen(answer.map(|drawn| drawn.reads))
+    }
+}
+
+/// What is said of a cell, as numbers: what an answer does not have is 0.
+pub fn seen_explained(answer: Answer<Why>) -> Seen {
+    let why = match answer {
+        Ok(why) => why,
+        Err(number) => return Seen::refusal(number),
+    };
+    let none = Explained::default();
+    let (led, explained) = match why {
+        Why::Cell { place, kind, led } => {
+            let (answer, place) = (CELL, place as u16);
+            (
+                led,
+                Explained {
+                    answer,
+                    place,
+                    kind,
+                    ..none
+                },
+            )
+        }
+        Why::Fill { place, led } => {
+            let (answer, place) = (FILL, place as u16);
+            (
+                led,
+                Explained {
+                    answer,
+                    place,
+                    ..none
+                },
+            )
+        }
+        Why::Past { led } => (
+            led,
+            Explained {
+                answer: PAST,
+                ..none
+            },
+        ),
+        Why::Dark { tore } => {
+            let (answer, tore) = (DARK, tore as u8);
+            (
+                Led::Row0,
+                Explained {
+                    answer,
+                    tore,
+                    ..none
+                },
+            )
+        }
+    };
+    let (linked, link) = match led {
+        Led::Row0 => (0, 0),
+        Led::Link(place) => (1, place as u16),
+    };
+    Seen {
+        explained: Explained {
+            linked,
+            link,
+            ..explained
+        },
+        ..Seen::refusal(0)
     }
 }

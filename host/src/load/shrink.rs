@@ -4,6 +4,7 @@ use super::sides::{Differs, Sides, Tried};
 use super::words::words;
 use super::world::{Kind, World};
 use crate::machine::Machine;
+use crate::viewers::VIEWERS;
 use std::fmt;
 
 /// Calls that end in a difference.
@@ -15,12 +16,15 @@ pub struct Script {
 
 impl fmt::Display for Script {
     fn fmt(&self, to: &mut fmt::Formatter) -> fmt::Result {
-        let World { seed, kind } = self.world;
+        let World { seed, kind, quiet } = self.world;
         let steps = self.steps.len();
         writeln!(
             to,
             "A difference after {steps} of these in the world {kind:?}, seed {seed:X}:"
         )?;
+        if let Some(viewer) = quiet {
+            writeln!(to, "(beside a run in which no viewer but {viewer} asks)")?;
+        }
         for step in &self.steps {
             writeln!(to, "  {}", words(step))?;
         }
@@ -148,6 +152,11 @@ fn plainer_calls(call: &Call) -> Vec<Call> {
         Call::StoreWithPicture { address, .. } => {
             vec![Call::StoreWithPicture { address, byte: 0 }]
         }
+        Call::StoreForViewers { address, .. } => {
+            vec![Call::StoreForViewers { address, byte: 0 }]
+        }
+        Call::Ask { .. } => vec![Call::Ask { viewer: 0 }],
+        Call::SetViewers(_) => vec![Call::StartViewers, Call::SetViewers([0; VIEWERS])],
         Call::ScanLine { row, scan } => {
             vec![
                 Call::ScanLine { row: 0, scan },

@@ -1,19 +1,21 @@
 //! The library and the model side by side, given the same calls, and a second library beside the first.
 use super::call::{Buffer, Call, Step, BUFFERS};
+use super::copies::{Copies, Quiet};
+use super::demands::{demands, Before};
 use super::desk::{Asked, Promise, Promises};
 use super::fault::Fault;
 use super::library::Library;
 use super::model::Model;
 use super::seen::mirrored;
+use super::watch_runs::Watched;
 use super::words::answered;
 use super::world::{self, World};
-use crate::chain::{self, PICTURE, RECORD, ROWS};
-use crate::dots::SCANS;
+use crate::chain::{self, PICTURE};
 use crate::hard::Chance;
 use crate::history::History;
 use crate::machine::Machine;
 use crate::rainbow::{self, Seen};
-use crate::screen::LINES;
+use crate::viewers::Viewers;
 use crate::why::Walk;
 
 /// What is tried: a library beside the model, and a second library beside the first if there is one.
@@ -39,16 +41,11 @@ pub struct Sides {
     /// The call made last stored into the place of a cell that was explained just before.
     promise: Option<Promise>,
     pub promises: Promises,
+    /// The picture as each viewer has it.
+    pub copies: Copies,
+    quiet: Option<Quiet>,
     fault: Fault,
     before: Vec<u8>,
-}
-
-/// How many ticks the watchdog's clock made, and how many resets began and ended at them.
-#[derive(Clone, Copy, Default)]
-pub struct Watched {
-    pub ticks: u64,
-    pub begun: u64,
-    pub ended: u64,
 }
 
 /// What differed.
@@ -61,22 +58,16 @@ fn same(differs: Option<Differs>) -> Result<(), Differs> {
     differs.map_or(Ok(()), Err)
 }
 
-/// The first line of a list that is no scan of a row, or does not come after the line before it. "It is shown to be 240
-/// lines for every L from 0 to 9."
-fn misplaced(list: &[u8]) -> Option<usize> {
-    let line = |at: usize| (usize::from(list[2 * at]), usize::from(list[2 * at + 1]));
-    (0..LINES).find(|at| {
-        let (row, scan) = line(*at);
-        let shown = row < ROWS && (1..=SCANS).contains(&scan);
-        !shown || *at > 0 && line(*at - 1) >= (row, scan)
-    })
-}
-
 impl Sides {
     pub fn new(world: &World, tried: Tried) -> Self {
         let model = world.model();
+        let library = Library::new(&model, tried.library);
         Self {
-            library: Library::new(&model, tried.library),
+            copies: Copies::new(),
+            quiet: world
+                .quiet
+                .map(|viewer| Quiet::new(viewer, library.clone())),
+            library,
             second: tried.second.map(|second| Library::new(&model, second)),
             history: History::of(&model.machine),
             model,
@@ -104,7 +95,7 @@ impl Sides {
 
     fn once(&mut self, step: &Step) -> Result<Seen, Differs> {
         let columns = self.model.machine.columns;
-        if let Call::StoreWithPicture { .. } = step.call {
+        if let Call::StoreWithPicture { .. } | Call::StoreForViewers { .. } = step.call {
             let picture = self.library.content(Buffer::Picture);
             self.before.copy_from_slice(picture);
         }
@@ -121,7 +112,12 @@ impl Sides {
             return Err("the machine".to_string());
         }
         self.beside(step, &library)?;
-        self.demands(&step.call, &library)?;
+        let before = Before {
+            picture: &self.before,
+            kept: self.kept,
+        };
+        demands(&self.library, before, &step.call, &library)?;
+        self.for_viewers(step, &library)?;
         self.by_ticks(step, &library)?;
         self.keeps_promise(&step.call, &library)?;
         self.asked = Asked::of(&step.call, &library);
@@ -131,7 +127,7 @@ impl Sides {
         }
         let accepted = library.refusal == 0;
         self.kept = match step.call {
-            Call::Draw if accepted => true,
+            Call::Draw | Call::DrawForViewers if accepted => true,
             Call::Store8088 { .. } if accepted => false,
             _ => self.kept && self.model.machine.columns == columns,
         };
@@ -140,6 +136,11 @@ impl Sides {
 
     fn put_fault(&mut self, call: &Call, answers: [&mut Seen; 2]) {
         self.fault.after(call, &mut self.library, &mut self.model);
+        if call.has_viewers() {
+            let seen = &answers[1];
+            self.fault.of_viewers(call, seen, &mut self.library.viewers);
+            self.fault.of_model(call, seen, &mut self.model);
+        }
         for seen in answers {
             self.fault.answered(call, seen);
         }
@@ -161,7 +162,40 @@ impl Sides {
         if second.machine != self.library.machine {
             return Err("the machine of the second library".to_string());
         }
+        if second.viewers != self.library.viewers {
+            return Err("the viewers of the second library".to_string());
+        }
         Ok(())
+    }
+
+    /// What waits for each viewer, what one that asked makes of its copy of the picture, and what it is handed where no
+    /// other viewer asks.
+    fn for_viewers(&mut self, step: &Step, seen: &Seen) -> Result<(), Differs> {
+        let waiting = self.library.viewers;
+        if step.call.has_viewers() && waiting != self.model.viewers.numbers() {
+            let model = self.model.viewers.numbers();
+            return Err(format!(
+                "the viewers:\n  model {model:X?}\n  library {waiting:X?}"
+            ));
+        }
+        if let (Call::Ask { viewer }, 0) = (step.call, seen.refusal) {
+            let (view, columns) = (&self.model.view, self.model.machine.columns.into());
+            let drawn = || chain::draw(&view.screen, &view.attribute, columns);
+            let fresh = || {
+                self.kept
+                    .then(|| drawn().expect("the right lengths").picture)
+            };
+            let picture = self.library.content(Buffer::Picture);
+            self.copies.asked(viewer, seen.value, picture, fresh)?;
+        }
+        self.copies.after(&step.call, seen);
+        match &mut self.quiet {
+            Some(quiet) => {
+                let told = &mut self.copies.told;
+                quiet.beside(step, self.fault, seen, &self.library, told)
+            }
+            None => Ok(()),
+        }
     }
 
     fn compare(&self, buffer: Buffer, far: bool) -> Result<(), Differs> {
@@ -178,43 +212,10 @@ impl Sides {
                 same(second.differs(buffer, bytes, true, LIBRARIES))?;
             }
         }
-        Ok(())
-    }
-
-    /// What the documents demand of the library alone, whatever the model says.
-    fn demands(&self, call: &Call, seen: &Seen) -> Result<(), Differs> {
-        match call {
-            Call::StoreWithPicture { .. } => {
-                let after = self.library.content(Buffer::Picture).chunks(RECORD);
-                let records = self.before.chunks(RECORD).zip(after).enumerate();
-                let marks: u64 = records
-                    .map(|(row, (before, after))| u64::from(before != after) << row)
-                    .sum();
-                if marks != seen.value {
-                    let wanted = format!("the records that changed are {marks:X}");
-                    return Err(format!("the marks are {:X}, but {wanted}", seen.value));
-                }
-            }
-            Call::DrawAfresh if seen.refusal == 0 && self.kept => {
-                let kept = self.library.content(Buffer::Picture);
-                let fresh = self.library.content(Buffer::Spare);
-                if let Some(place) = (0..PICTURE).find(|place| kept[*place] != fresh[*place]) {
-                    let (row, byte) = (place / RECORD, place % RECORD);
-                    return Err(format!(
-                        "the kept picture differs from a fresh one in row {row:X}, byte {byte:X}"
-                    ));
-                }
-            }
-            Call::ListLines if seen.refusal == 0 => {
-                if let Some(line) = misplaced(self.library.content(Buffer::List)) {
-                    return Err(format!(
-                        "line {line:X} of the list is no scan of a row, or not below the one before it"
-                    ));
-                }
-            }
-            _ => {}
+        match &self.quiet {
+            Some(quiet) => quiet.same_memories(&self.library),
+            None => Ok(()),
         }
-        Ok(())
     }
 
     /// What document 02 says of the watchdog over a run, by the ticks made and by what was accepted, whatever the model
@@ -279,6 +280,13 @@ impl Sides {
         if let Call::SetMachine(machine) = call {
             return self.set_machine(machine);
         }
+        self.copies.left_behind();
+        if let Call::SetViewers(viewers) = *call {
+            self.model.viewers = Viewers::given(viewers);
+            self.libraries()
+                .for_each(|library| library.viewers = viewers);
+            return;
+        }
         self.kept = false;
         match *call {
             Call::AlterPicture { place, byte } => self.model.picture[place] = byte,
@@ -295,35 +303,25 @@ impl Sides {
             }
             _ => {}
         }
-        let libraries = [Some(&mut self.library), self.second.as_mut()];
-        for library in libraries.into_iter().flatten() {
+        let kept = self.model.picture.clone();
+        for library in self.libraries() {
             let picture = library.buffers[Buffer::Picture as usize].content_mut();
-            picture.copy_from_slice(&self.model.picture);
+            picture.copy_from_slice(&kept);
         }
+    }
+
+    /// The libraries of all sides.
+    fn libraries(&mut self) -> impl Iterator<Item = &mut Library> {
+        let quiet = self.quiet.as_mut().map(|quiet| &mut quiet.library);
+        let all = [Some(&mut self.library), self.second.as_mut(), quiet];
+        all.into_iter().flatten()
     }
 
     fn set_machine(&mut self, machine: &Machine) {
         self.kept = false;
         self.model.machine = *machine;
         self.history = History::of(machine);
-        let libraries = [Some(&mut self.library), self.second.as_mut()];
-        for library in libraries.into_iter().flatten() {
-            library.machine = mirrored(machine);
-        }
-    }
-}
-
-impl Watched {
-    /// A tick, with the reset before it and after it.
-    fn count(&mut self, before: u8, after: u8) {
-        self.ticks += 1;
-        self.begun += u64::from(before < after);
-        self.ended += u64::from(before > after);
-    }
-
-    pub fn add(&mut self, other: &Self) {
-        self.ticks += other.ticks;
-        self.begun += other.begun;
-        self.ended += other.ended;
+        self.libraries()
+            .for_each(|library| library.machine = mirrored(machine));
     }
 }

@@ -1,6 +1,7 @@
 //! Every port, code, edge, row, scan and place once, before calls are chosen by chance.
 use super::aim::EDGES;
 use super::call::{Call, Step, WRONG_LENGTHS};
+use super::viewer_sweep;
 use crate::chain::{PAIRS, ROWS};
 use crate::dots::SCANS;
 use crate::machine::Machine;
@@ -19,6 +20,7 @@ pub fn pieces() -> Vec<Vec<Step>> {
         lines(),
         marks(),
         cells(),
+        viewer_sweep::asks(),
         in_reset(),
     ];
     let mut all: Vec<Vec<Step>> = pieces
@@ -175,6 +177,7 @@ fn in_reset() -> Vec<Call> {
             calls.push(Call::Read8088 { address });
             calls.push(Call::Store8088 { address, byte });
             calls.push(Call::StoreWithPicture { address, byte });
+            calls.push(Call::StoreForViewers { address, byte });
         }
         for place in [0, 255, 256, usize::MAX] {
             calls.push(Call::ReadShadow { place });
@@ -187,6 +190,8 @@ fn in_reset() -> Vec<Call> {
             calls.push(Call::ReadZ80 { address });
         }
         calls.extend([Call::Draw, Call::DrawAfresh, Call::VerticalTick]);
+        calls.extend([Call::DrawForViewers, Call::Ask { viewer: 7 }]);
+        calls.extend([Call::Ask { viewer: 8 }, Call::StartViewers]);
         for (row, scan) in [(0, 1), (ROWS, 1), (0, 0)] {
             calls.push(Call::ScanLine { row, scan });
         }
@@ -228,6 +233,8 @@ fn lengths() -> Vec<Step> {
         Call::WriteShadow { place: 0, value: 1 },
         Call::Draw,
         Call::StoreWithPicture { address, byte },
+        Call::DrawForViewers,
+        Call::StoreForViewers { address, byte },
         Call::GlyphPart { code: 0x41 },
         Call::ScanLine { row: 0, scan: 1 },
         Call::ListLines,
@@ -249,6 +256,7 @@ fn lengths() -> Vec<Step> {
         };
         for machine in [runs, reset] {
             steps.push(Call::SetMachine(machine).into());
+            steps.push(Call::SetViewers([0, 1, 2, 4, 8, 1 << 24, 1 << 25, 1 << 31]).into());
             steps.extend(calls.iter().flat_map(|call| wrong_lengths(*call)));
         }
     }

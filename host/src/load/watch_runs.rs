@@ -5,6 +5,29 @@ use super::model::Model;
 use crate::hard::Chance;
 use crate::machine::Machine;
 
+/// How many ticks the watchdog's clock made, and how many resets began and ended at them.
+#[derive(Clone, Copy, Default)]
+pub struct Watched {
+    pub ticks: u64,
+    pub begun: u64,
+    pub ended: u64,
+}
+
+impl Watched {
+    /// A tick, with the reset before it and after it.
+    pub fn count(&mut self, before: u8, after: u8) {
+        self.ticks += 1;
+        self.begun += u64::from(before < after);
+        self.ended += u64::from(before > after);
+    }
+
+    pub fn add(&mut self, other: &Self) {
+        self.ticks += other.ticks;
+        self.begun += other.begun;
+        self.ended += other.ended;
+    }
+}
+
 /// How a run goes.
 #[derive(Clone, Copy, Debug, PartialEq, Eq)]
 pub enum Manner {
@@ -178,7 +201,12 @@ mod tests {
     fn run(manner: Manner, ticks: u64) -> Came {
         let mut chance = Chance(0x9E3779B97F4A7C15 ^ manner as u64);
         let kind = Kind::Blank;
-        let mut model = World { seed: 1, kind }.model();
+        let world = World {
+            seed: 1,
+            kind,
+            quiet: None,
+        };
+        let mut model = world.model();
         model.machine = Machine::power_up();
         let mut history = History::of(&model.machine).unwrap();
         let mut came = Came::default();

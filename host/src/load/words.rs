@@ -7,7 +7,9 @@ pub fn numbers(call: &Call) -> Vec<(&'static str, u64)> {
     match *call {
         Call::WritePort { port, code } => vec![("port", port.into()), ("code", code.into())],
         Call::Read8088 { address } => vec![("address", address.into())],
-        Call::Store8088 { address, byte } | Call::StoreWithPicture { address, byte } => {
+        Call::Store8088 { address, byte }
+        | Call::StoreWithPicture { address, byte }
+        | Call::StoreForViewers { address, byte } => {
             vec![("address", address.into()), ("byte", byte.into())]
         }
         Call::ReadZ80 { address } => vec![("address", address.into())],
@@ -22,6 +24,7 @@ pub fn numbers(call: &Call) -> Vec<(&'static str, u64)> {
         Call::GlyphPart { code } => vec![("code", code.into())],
         Call::ScanLine { row, scan } => vec![("row", row as u64), ("scan", scan as u64)],
         Call::Explain { row, column } => vec![("row", row as u64), ("column", column as u64)],
+        Call::Ask { viewer } => vec![("viewer", viewer as u64)],
         Call::AlterPicture { place, byte } => {
             vec![("place", place as u64), ("byte", byte.into())]
         }
@@ -34,6 +37,7 @@ fn name(call: &Call) -> String {
     match call {
         Call::DrawAfresh => "draw into a second picture".to_string(),
         Call::SetMachine(machine) => format!("(by hand) the machine becomes {machine:X?}"),
+        Call::SetViewers(viewers) => format!("(by hand) the viewers become {viewers:X?}"),
         Call::AlterPicture { .. } => "(by hand) alter the picture".to_string(),
         Call::StrewPicture { .. } => "(by hand) any bytes in the picture".to_string(),
         Call::OtherPicture { .. } => "(by hand) a picture of other memories".to_string(),
@@ -69,8 +73,8 @@ pub fn words(step: &Step) -> String {
 pub fn answered(call: &Call) -> &'static str {
     match call {
         Call::Read8088 { .. } | Call::ReadZ80 { .. } | Call::ReadShadow { .. } => "byte",
-        Call::Draw | Call::DrawAfresh => "read count",
-        Call::StoreWithPicture { .. } => "marks",
+        Call::Draw | Call::DrawAfresh | Call::DrawForViewers => "read count",
+        Call::StoreWithPicture { .. } | Call::StoreForViewers { .. } | Call::Ask { .. } => "marks",
         Call::GlyphPart { .. } => "place",
         _ => "number",
     }

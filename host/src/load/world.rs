@@ -5,8 +5,10 @@ use crate::dots::{GLYPHS, LINE};
 use crate::hard::{self, Chance};
 use crate::machine::Machine;
 use crate::memories::{View8088, NVM, PRIVATE, SHADOW, SHARED};
+use crate::rainbow::Waiting;
 use crate::sample::herd_book;
 use crate::screen::LIST;
+use crate::viewers::{Viewers, VIEWERS};
 use crate::why::Walk;
 
 /// What the chain of a world is like.
@@ -44,6 +46,8 @@ const KINDS: [Kind; 12] = [
 pub struct World {
     pub seed: u64,
     pub kind: Kind,
+    /// The viewer whose answers are compared with those that it has where no other viewer asks, if one is.
+    pub quiet: Option<usize>,
 }
 
 /// Memories that rows are laid in, one after another. What a row has been laid on is not changed for a later one.
@@ -227,6 +231,30 @@ pub fn machine(chance: &mut Chance) -> Machine {
     }
 }
 
+/// Numbers that may wait for the viewers: those of the start, none, or any bits, also those that no row has.
+pub fn viewers(chance: &mut Chance) -> Waiting {
+    let numbers = [
+        0,
+        1,
+        1 << (ROWS - 1),
+        (1 << ROWS) - 1,
+        1 << ROWS,
+        1 << 31,
+        u32::MAX,
+    ];
+    let mut any = || match chance.below(3) {
+        0 => chance.below(1 << 32) as u32,
+        1 => 1 << chance.below(32),
+        _ => chance.of(&numbers),
+    };
+    let each = std::array::from_fn(|_| any());
+    match chance.below(4) {
+        0 => Viewers::start().numbers(),
+        1 => [0; VIEWERS],
+        _ => each,
+    }
+}
+
 impl World {
     pub fn any(chance: &mut Chance) -> Self {
         let world = Self::of(chance, Kind::Hard);
@@ -240,6 +268,7 @@ impl World {
         Self {
             seed: (chance.below(u32::MAX as usize) as u64) << 16 | 1,
             kind,
+            quiet: None,
         }
     }
 
@@ -263,6 +292,7 @@ impl World {
             line: strewn(chance, LINE),
             list: strewn(chance, LIST),
             spare: strewn(chance, PICTURE),
+            viewers: Viewers::given(viewers(chance)),
             machine,
             walk: Walk::default(),
         }

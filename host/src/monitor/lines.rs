@@ -5,7 +5,7 @@ use crate::memories::{ATTRIBUTE, NVM, PRIVATE, SCREEN, SHADOW, SHARED};
 use crate::screen::LIST;
 
 /// The forms, in the order that `help` has.
-pub const FORMS: [&str; 32] = [
+pub const FORMS: [&str; 35] = [
     "store HHHHHHHH HH",
     "blind HHHHHHHH HH",
     "read HHHHHHHH",
@@ -17,6 +17,7 @@ pub const FORMS: [&str; 32] = [
     "shadow write DDDDD HH",
     "shadow read DDDDD",
     "draw",
+    "ask DDDDD",
     "marked HHHHHHHH DDDDD",
     "why DDDDD DDDDD",
     "line DDDDD DDDDD",
@@ -28,6 +29,8 @@ pub const FORMS: [&str; 32] = [
     "machine",
     "latch HH",
     "count DDD D",
+    "viewers",
+    "wait DDDDD HHHHHHHH",
     "rows",
     "text",
     "list DDDDD",
@@ -149,6 +152,10 @@ mod tests {
         assert_eq!(call("why 00000 99999"), Some(vec![0, 99999]));
         assert_eq!(call("watch 128"), Some(vec![128]));
         assert_eq!(call("watch 99999"), Some(vec![99999]));
+        assert_eq!(call("ask 7"), Some(vec![7]));
+        assert_eq!(call("ask 99999"), Some(vec![99999]));
+        assert_eq!(call("wait 00007 fFfFfFfF"), Some(vec![7, u32::MAX]));
+        assert_eq!(call("viewers"), Some(vec![]));
         for bad in [
             "store 000000000 0",
             "store 0 000",
@@ -166,6 +173,14 @@ mod tests {
             "why 0 100000",
             "why 0",
             "why 0 0 132",
+            "ask",
+            "ask 1A",
+            "ask 100000",
+            "ask 0 0",
+            "wait 0",
+            "wait 100000 0",
+            "wait 0 100000000",
+            "viewers 0",
             "glyph 041",
         ] {
             assert_eq!(call(bad), None, "{bad}");
@@ -277,5 +292,10 @@ mod tests {
         assert_eq!(understood(b"line"), Line::Bad(vec!["line DDDDD DDDDD"]));
         assert_eq!(understood(b"lines 1"), Line::Bad(vec!["lines"]));
         assert_eq!(understood(b"why 1"), Line::Bad(vec!["why DDDDD DDDDD"]));
+        assert_eq!(understood(b"ask"), Line::Bad(vec!["ask DDDDD"]));
+        assert_eq!(
+            understood(b"wait 8"),
+            Line::Bad(vec!["wait DDDDD HHHHHHHH"])
+        );
     }
 }

@@ -81,8 +81,10 @@ mod tests {
         assert_eq!(shown::refused("why DDDDD DDDDD", 5), why);
         let latch = "refused 9: the scroll latch is over 9";
         assert_eq!(shown::refused("lines", 9), latch);
-        let other = "refused 10, byte 00: a refusal that the monitor does not know";
-        assert_eq!(shown::refused("read HHHHHHHH", 10), other);
+        let viewer = "refused 10, marks 00000000: no such viewer";
+        assert_eq!(shown::refused("ask DDDDD", 10), viewer);
+        let other = "refused 11, byte 00: a refusal that the monitor does not know";
+        assert_eq!(shown::refused("read HHHHHHHH", 11), other);
     }
 
     #[test]
@@ -277,6 +279,57 @@ mod tests {
             ("power", "power-up: ".to_string()),
             ("lines", at_rest),
             ("lines 1", "expected lines\n".to_string()),
+        ];
+        let mut session = Session::power_up();
+        for (line, begins) in lines {
+            let answer = String::from_utf8(session.answer(line.as_bytes())).unwrap();
+            assert!(answer.starts_with(&begins), "{line}: {answer}");
+        }
+    }
+
+    /// 02, ticket 7: "a store adds its marks to all eight, and a viewer who asks is handed its own and is cleared. Asking
+    /// changes no other viewer's answer". "Refusals: 10, a viewer over 7".
+    #[test]
+    fn viewers_are_told_what_was_marked() {
+        let each = |word: &str, marks: [u32; 8]| {
+            let marks: String = marks.iter().map(|marks| format!(" {marks:08X}")).collect();
+            format!("{word}:{marks}\n")
+        };
+        let rows: String = (0..25).map(|row| format!(" {row}")).collect();
+        let all = format!("asked, marks 01FFFFFF{rows}\n");
+        let none = "asked, marks 00000000\n".to_string();
+        let x = 0x01FF_FFFF;
+        let lines = [
+            ("viewers", each("viewers", [x; 8])),
+            ("ask 3", all.clone()),
+            ("ask 3", none.clone()),
+            ("viewers", each("viewers", [x, x, x, 0, x, x, x, x])),
+            ("draw", "drawn, ".to_string()),
+            ("ask 3", all.clone()),
+            ("store EE000 41", "stored, marks 00000001 0\n".to_string()),
+            ("ask 3", "asked, marks 00000001 0\n".to_string()),
+            ("blind EE001 41", "stored\n".to_string()),
+            ("store F0000 41", "refused 2, marks 00000000: ".to_string()),
+            ("lend picture 0", "lent\n".to_string()),
+            ("draw", "refused 1, ".to_string()),
+            ("store EE001 42", "refused 1, marks 00000000: ".to_string()),
+            ("ask 3", none.clone()),
+            ("ask 7", all),
+            (
+                "ask 8",
+                "refused 10, marks 00000000: no such viewer\n".to_string(),
+            ),
+            (
+                "wait 7 FE000006",
+                each("waits", [x, x, x, 0, x, x, x, 0xFE00_0006]),
+            ),
+            ("wait 8 1", "expected a viewer of 0 to 7\n".to_string()),
+            (
+                "ask 7",
+                "asked, marks FE000006 1 2 25 26 27 28 29 30 31\n".to_string(),
+            ),
+            ("power", "power-up: ".to_string()),
+            ("viewers", each("viewers", [x; 8])),
         ];
         let mut session = Session::power_up();
         for (line, begins) in lines {

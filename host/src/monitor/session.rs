@@ -1,4 +1,4 @@
-//! The memories and the machine that a session of the monitor keeps, and what each line does to them.
+//! The memories, the machine and the viewers that a session of the monitor keeps, and what each line does to them.
 use super::lines::{understood, Line, NAMES};
 use super::memory::Memory;
 use super::shown;
@@ -8,6 +8,7 @@ use crate::machine::Machine;
 use crate::memories::{self, View8088};
 use crate::mending;
 use crate::screen;
+use crate::viewers::Viewers;
 use crate::why;
 use crate::Answer;
 
@@ -24,6 +25,7 @@ const LINES: usize = 9;
 
 pub struct Session {
     machine: Machine,
+    viewers: Viewers,
     memories: Vec<Memory>,
 }
 
@@ -31,6 +33,7 @@ impl Session {
     pub fn power_up() -> Self {
         Self {
             machine: Machine::power_up(),
+            viewers: Viewers::start(),
             memories: NAMES
                 .iter()
                 .map(|(_, length)| Memory::new(*length))
@@ -98,6 +101,7 @@ impl Session {
         let word = match form {
             "draw" => return self.draw(),
             "lines" => return self.lines(),
+            "viewers" => return Ok(shown::waiting("viewers", &self.viewers.numbers())),
             "sums" => {
                 let memories = self.memories.iter();
                 return Ok(shown::sums(memories.map(|memory| &memory.bytes[..])));
@@ -110,6 +114,7 @@ impl Session {
             }
             "power" => {
                 self.machine = Machine::power_up();
+                self.viewers = Viewers::start();
                 for (memory, (_, length)) in self.memories.iter_mut().zip(NAMES) {
                     memory.lent = length;
                 }
@@ -163,6 +168,11 @@ impl Session {
             "shadow read DDDDD" => {
                 memories::shadow_read(&self.machine, self.lent(SHADOW), place).map(reads)
             }
+            "ask DDDDD" => {
+                let marks = self.viewers.ask(place)?;
+                Ok(shown::marks("asked", marks))
+            }
+            "wait DDDDD" => Ok(self.wait(place, numbers[1])),
             "why DDDDD DDDDD" => self.why(place, second),
             "line DDDDD DDDDD" => self.line(place, second),
             "marked" => Ok(shown::marked(first, second)),
@@ -189,6 +199,7 @@ impl Session {
             return Err(1);
         }
         self.put_back(PICTURES, &drawn.picture);
+        self.viewers.drawn();
         Ok(shown::drawn(&drawn))
     }
 
@@ -196,7 +207,19 @@ impl Session {
         let marks = self.with_view(|view, picture, machine| {
             mending::store(view, picture, machine, address, byte)
         })?;
-        Ok(shown::marks(marks))
+        self.viewers.stored(marks);
+        Ok(shown::marks("stored", marks))
+    }
+
+    /// Any number in place of what waits for a viewer, as a caller can put it.
+    fn wait(&mut self, viewer: usize, marks: u32) -> String {
+        let mut numbers = self.viewers.numbers();
+        match numbers.get_mut(viewer) {
+            Some(waiting) => *waiting = marks,
+            None => return "expected a viewer of 0 to 7".to_string(),
+        }
+        self.viewers = Viewers::given(numbers);
+        shown::waiting("waits", &numbers)
     }
 
     fn port(&mut self, port: u16, code: u8) -> Answer<String> {

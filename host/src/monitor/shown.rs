@@ -10,7 +10,7 @@ use crate::why::{Led, Why};
 pub fn refused(form: &str, number: u8) -> String {
     let beside = match form.split(" H").next().unwrap_or(form) {
         "read" | "z80 read" | "shadow read DDDDD" => ", byte 00",
-        "store" => ", marks 00000000",
+        "store" | "ask DDDDD" => ", marks 00000000",
         "draw" => ", bytes read 0, no wild row named",
         "why DDDDD DDDDD" => ", as numbers 0 0000 0 0 0 0000",
         _ => "",
@@ -25,6 +25,7 @@ pub fn refused(form: &str, number: u8) -> String {
         7 => "the Z80 is held in reset",
         8 => "the 8088 is in reset",
         9 => "the scroll latch is over 9",
+        10 => "no such viewer",
         _ => "a refusal that the monitor does not know",
     };
     format!("refused {number}{beside}: {words}")
@@ -61,10 +62,20 @@ pub fn drawn(drawn: &Drawn) -> String {
     format!("drawn, bytes read: {}, {wild}", drawn.reads)
 }
 
-pub fn marks(marks: u32) -> String {
+/// A word, marks, and each row that is marked.
+pub fn marks(word: &str, marks: u32) -> String {
     let rows = (0..u32::BITS).filter(|row| marks >> row & 1 == 1);
     let rows: String = rows.map(|row| format!(" {row}")).collect();
-    format!("stored, marks {marks:08X}{rows}")
+    format!("{word}, marks {marks:08X}{rows}")
+}
+
+/// A word and the marks that wait for each viewer, viewer 0 first.
+pub fn waiting(word: &str, numbers: &[u32]) -> String {
+    let numbers: String = numbers
+        .iter()
+        .map(|marks| format!(" {marks:08X}"))
+        .collect();
+    format!("{word}:{numbers}")
 }
 
 /// Whether a number has the bit of a row, of those that it has.

@@ -32,6 +32,27 @@ fn c_type(kind: &str) -> String {
     }
 }
 
+/// The kind of an array's elements and how many there are, which is a constant of the text.
+fn array<'a>(kind: &'a str, text: &'a str) -> Option<(&'a str, &'a str)> {
+    let (element, length) = kind.strip_prefix('[')?.strip_suffix(']')?.split_once(';')?;
+    let (_, value) = text.split_once(&format!("const {length}: usize = "))?;
+    Some((element, value.split_once(';')?.0))
+}
+
+/// A field declared, and the type that an expression of it has: an array is the pointer that it becomes.
+fn field(name: &str, kind: &str, text: &str) -> (String, String) {
+    match array(kind, text) {
+        Some((element, length)) => {
+            let element = c_type(element);
+            (
+                format!("{element} {name}[{length}]"),
+                format!("{element} *"),
+            )
+        }
+        None => (format!("{} {name}", c_type(kind)), c_type(kind)),
+    }
+}
+
 fn prototype(function: &Function) -> String {
     let given = function.parameters.iter().map(|one| c_type(&one.kind));
     let given = given.collect::<Vec<_>>().join(", ");
@@ -44,16 +65,17 @@ fn structure(name: &str, text: &str) -> String {
     let (there, here) = (c_type(name), format!("struct source_{}", lower(name)));
     let fields = fields(text, name);
     let mut code = format!("\n{here} {{\n");
-    for field in &fields {
-        code += &format!("    {} {};\n", c_type(&field.kind), field.name);
+    for one in &fields {
+        code += &format!("    {};\n", field(one.name, &one.kind, text).0);
     }
     code += &format!("}};\n_Static_assert(sizeof({there}) == sizeof({here}), \"{there}\");\n");
-    for field in &fields {
-        let name = field.name;
+    for one in &fields {
+        let name = one.name;
         code += &format!(
             "_Static_assert(offsetof({there}, {name}) == offsetof({here}, {name}) && \
+             sizeof((({there} *)0)->{name}) == sizeof((({here} *)0)->{name}) && \
              _Generic((({there} *)0)->{name}, {}: 1, default: 0),\n               \"{there}.{name}\");\n",
-            c_type(&field.kind)
+            field(name, &one.kind, text).1
         );
     }
     code
@@ -102,6 +124,21 @@ mod tests {
         assert!(made.contains("_Generic(((rainbow_byte_read *)0)->wild, bool: 1, default: 0)"));
         assert!(made
             .contains("offsetof(rainbow_byte_read, at) == offsetof(struct source_byte_read, at)"));
+    }
+
+    #[test]
+    fn an_array_and_a_struct_in_a_struct() {
+        let text = "pub const MANY: usize = 8;\n#[repr(C)]\npub struct Both {\n    pub one: ByteRead,\n    \
+                    pub all: [u32; MANY],\n}\n";
+        let made = file(&[], &[("Both", text)]);
+        assert!(
+            made.contains("    rainbow_byte_read one;\n    uint32_t all[8];\n};\n"),
+            "{made}"
+        );
+        assert!(made.contains("_Generic(((rainbow_both *)0)->all, uint32_t *: 1, default: 0)"));
+        assert!(made.contains(
+            "sizeof(((rainbow_both *)0)->all) == sizeof(((struct source_both *)0)->all)"
+        ));
     }
 
     #[test]

@@ -1,6 +1,6 @@
 //! A shared object: its functions by their names of C, and a call of each. Rust's own rules keep what the header asks
 //! of its caller: a slice is one buffer with its length, and one that may change overlaps no other.
-use super::{Explained, Lent, Machine, Request, Seen, Wild, FUNCTIONS};
+use super::{Explained, Lent, Machine, Request, Seen, Waiting, Wild, FUNCTIONS};
 use std::ffi::{c_void, CStr, CString};
 use std::os::raw::{c_char, c_int};
 use std::ptr::null_mut;
@@ -38,6 +38,30 @@ struct Drawn {
 struct Stored {
     refusal: u8,
     marks: u32,
+}
+
+#[repr(C)]
+struct Viewers {
+    waiting: Waiting,
+}
+
+#[repr(C)]
+struct Asked {
+    refusal: u8,
+    marks: u32,
+    viewers: Viewers,
+}
+
+#[repr(C)]
+struct DrawnForViewers {
+    drawn: Drawn,
+    viewers: Viewers,
+}
+
+#[repr(C)]
+struct StoredForViewers {
+    stored: Stored,
+    viewers: Viewers,
 }
 
 #[repr(C)]
@@ -108,9 +132,11 @@ impl Loaded {
         let Request {
             function,
             machine,
+            viewers: waiting,
             mut lent,
             numbers: [m, n],
         } = request;
+        let viewers = Viewers { waiting };
         let at = self.functions[function];
         let name = FUNCTIONS[function];
         let mut buffers = [(null_mut(), 0); 4];
@@ -129,13 +155,59 @@ impl Loaded {
                     Seen::value(of!(at, (Machine) -> u8)(machine))
                 }
                 "is_marked" => Seen::value(of!(at, (u32, usize) -> u8)(m as u32, n as usize)),
+                "start_viewers" => Seen {
+                    viewers: of!(at, () -> Viewers)().waiting,
+                    ..Seen::default()
+                },
+                "ask" => {
+                    let asked = of!(at, (Viewers, usize) -> Asked)(viewers, m as usize);
+                    Seen {
+                        viewers: asked.viewers.waiting,
+                        ..Seen::answer(asked.refusal, asked.marks)
+                    }
+                }
+                "draw_for_viewers" | "store_for_viewers" => {
+                    serving(name, at, machine, viewers, buffers, m, n)
+                }
                 _ => lending(name, at, machine, buffers, m, n),
             }
         }
     }
 }
 
-/// A call of a function that is lent buffers.
+/// A call of a function that serves viewers.
+unsafe fn serving(
+    name: &str,
+    at: usize,
+    machine: Machine,
+    viewers: Viewers,
+    lent: [(Out, usize); 4],
+    m: u64,
+    n: u64,
+) -> Seen {
+    let [(a, a_len), (b, b_len), (c, c_len), (d, d_len)] = lent;
+    if name == "draw_for_viewers" {
+        let call = of!(at, (Machine, Viewers, In, usize, In, usize, Out, usize) -> DrawnForViewers);
+        let served = call(machine, viewers, a, a_len, b, b_len, c, c_len);
+        return Seen {
+            viewers: served.viewers.waiting,
+            ..drawn(served.drawn)
+        };
+    }
+    let call = of!(
+        at,
+        (Machine, Viewers, Out, usize, Out, usize, Out, usize, Out, usize, u32, u8) -> StoredForViewers
+    );
+    let served = call(
+        machine, viewers, a, a_len, b, b_len, c, c_len, d, d_len, m as u32, n as u8,
+    );
+    Seen {
+        viewers: served.viewers.waiting,
+        ..Seen::answer(served.stored.refusal, served.stored.marks)
+    }
+}
+
+/// A call of another function that is lent buffers.
 unsafe fn lending(
     name: &str,
     at: usize,
@@ -179,14 +251,7 @@ unsafe fn lending(
         }
         "draw" => {
             let call = of!(at, (Machine, In, usize, In, usize, Out, usize) -> Drawn);
-            let drawn = call(machine, a, a_len, b, b_len, c, c_len);
-            Seen {
-                wild: Wild {
-                    there: drawn.wild,
-                    row: drawn.wild_row,
-                },
-                ..Seen::answer(drawn.refusal, drawn.reads)
-            }
+            drawn(call(machine, a, a_len, b, b_len, c, c_len))
         }
         "store_with_picture" => {
             let call = of!(at, (Machine, Out, usize, Out, usize, Out, usize, Out, usize, u32, u8) -> Stored);
@@ -233,4 +298,14 @@ unsafe fn lending(
 
 fn read(read: ByteRead) -> Seen {
     Seen::answer(read.refusal, read.byte)
+}
+
+fn drawn(drawn: Drawn) -> Seen {
+    Seen {
+        wild: Wild {
+            there: drawn.wild,
+            row: drawn.wild_row,
+        },
+        ..Seen::answer(drawn.refusal, drawn.reads)
+    }
 }

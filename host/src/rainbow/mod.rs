@@ -3,6 +3,7 @@
 mod loaded;
 mod served;
 
+use crate::viewers::VIEWERS;
 use loaded::Loaded;
 use served::Served;
 
@@ -24,7 +25,7 @@ pub struct Machine {
 }
 
 /// The functions of the header, without `rainbow_`. host/serve.c has the same numbers.
-pub const FUNCTIONS: [&str; 24] = [
+pub const FUNCTIONS: [&str; 28] = [
     "version",
     "power_up",
     "vertical_tick",
@@ -49,11 +50,18 @@ pub const FUNCTIONS: [&str; 24] = [
     "scan_line",
     "list_lines",
     "explain",
+    "start_viewers",
+    "ask",
+    "draw_for_viewers",
+    "store_for_viewers",
 ];
+
+/// The marks that wait for each viewer.
+pub type Waiting = [u32; VIEWERS];
 
 /// An answer. `value` is the one number that the call gives: the byte, the reads, the marks, the place, the
 /// columns, the dots, the version, or 1 for true. Only a glyph part has a length, only a drawing has what it says of a
-/// wild link, only what explains a cell has what it says of it, and only some calls have a machine.
+/// wild link, only what explains a cell has what it says of it, and only some calls have a machine, or viewers.
 #[derive(Clone, Copy, Debug, Default, PartialEq, Eq)]
 pub struct Seen {
     pub refusal: u8,
@@ -62,6 +70,7 @@ pub struct Seen {
     pub machine: Machine,
     pub wild: Wild,
     pub explained: Explained,
+    pub viewers: Waiting,
 }
 
 /// What a drawing says of the first wild link: whether there is one, a byte as a bool of the machine is, and its row.
@@ -91,10 +100,12 @@ pub const DARK: u8 = 4;
 /// A buffer that is lent; NULL with length 0 if there is none.
 pub type Lent<'a> = Option<&'a mut [u8]>;
 
-/// A call: the function by its number, the machine, the buffers in the header's order, and the other numbers.
+/// A call: the function by its number, the machine, the viewers, the buffers in the header's order, and the other
+/// numbers.
 pub struct Request<'a> {
     pub function: usize,
     pub machine: Machine,
+    pub viewers: Waiting,
     pub lent: Vec<Lent<'a>>,
     pub numbers: [u64; 2],
 }

@@ -49,6 +49,7 @@ impl Process {
         for number in request.numbers {
             sent.extend(number.to_le_bytes());
         }
+        sent.extend(request.viewers.iter().flat_map(|marks| marks.to_le_bytes()));
         sent.push(request.lent.len() as u8);
         for lent in &request.lent {
             let bytes = lent.as_deref().unwrap_or_default();
@@ -57,7 +58,7 @@ impl Process {
             sent.extend(bytes);
         }
         self.to.write_all(&sent)?;
-        let mut answer = [0; 38];
+        let mut answer = [0; 70];
         self.from.read_exact(&mut answer)?;
         for bytes in request.lent.into_iter().flatten() {
             self.from.read_exact(bytes)?;
@@ -66,6 +67,11 @@ impl Process {
             let mut bytes = [0; 8];
             bytes.copy_from_slice(&answer[at..at + 8]);
             u64::from_le_bytes(bytes)
+        };
+        let marks = |viewer: usize| {
+            let mut bytes = [0; 4];
+            bytes.copy_from_slice(&answer[38 + 4 * viewer..][..4]);
+            u32::from_le_bytes(bytes)
         };
         let place = |at: usize| u16::from_le_bytes([answer[at], answer[at + 1]]);
         Ok(Seen {
@@ -85,6 +91,7 @@ impl Process {
                 linked: answer[35],
                 link: place(36),
             },
+            viewers: std::array::from_fn(marks),
         })
     }
 }

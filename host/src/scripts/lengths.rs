@@ -115,6 +115,9 @@ pub fn script() -> Script {
     for (call, memories, right, wrong) in calls(past) {
         script.remark(&format!("By {call}: {}.", memories.join(", ")));
         script.line("sums");
+        if serves(right) {
+            script.lines(&["ask 3", "viewers"]);
+        }
         for name in memories {
             refused(&mut script, name, right, wrong);
         }
@@ -144,6 +147,9 @@ pub fn script() -> Script {
             out_of_reset(&mut script);
         }
         script.lines(&["sums", "machine"]);
+        if serves(right) {
+            script.line("viewers");
+        }
     }
     script.remark("Two lengths that are wrong at once; a shared and a private memory that are lent for each other.");
     script.lines(&["lend shared 2048", "lend private 2049", "z80 read 0000"]);
@@ -158,7 +164,13 @@ pub fn script() -> Script {
         "lend lines 0",
     ]);
     script.lines(&["draw", "read EE000", "blind EE000 41", "store EE000 42"]);
-    script.lines(&["why 0 0", "shadow write 0 05", "shadow read 0", "power"]);
+    script.lines(&[
+        "ask 0",
+        "why 0 0",
+        "shadow write 0 05",
+        "shadow read 0",
+        "power",
+    ]);
     script.lines(&["lend shared 0", "lend private 0", "lend nvm 0", "draw"]);
     script.lines(&["lend picture 0", "glyph 41", "power", "lend picture 0"]);
     script.lines(&[
@@ -170,23 +182,29 @@ pub fn script() -> Script {
     ]);
     script.lines(&["lend attribute 0", "port 0A 01"]);
     script.lines(&["z80 read 0800", "line 0 1", "lend glyphs 0"]);
-    script.lines(&["lend line 0", "lines"]);
+    script.lines(&["lend line 0", "lines", "ask 7", "ask 8", "viewers"]);
     script.remark("Lent at their own lengths, each is accepted, or refused by the next number.");
     script.lines(&["power", "z80 read 0000", "z80 store 0000 41"]);
     script.line("port 0A 03");
     for (_, _, right, wrong) in calls(past) {
         script.lines(&[right, wrong]);
     }
-    script.lines(&["sums", "machine"]);
+    script.lines(&["ask 7", "ask 8", "sums", "machine", "viewers"]);
     script.remark("The same while the 8088 is in reset: its own are refused by 8, and no other.");
     script.line("port 0A 03");
     reset(&mut script);
     for (_, _, right, wrong) in calls(past) {
         script.lines(&[right, wrong]);
     }
+    script.lines(&["ask 7", "ask 8"]);
     out_of_reset(&mut script);
-    script.lines(&["sums", "machine"]);
+    script.lines(&["sums", "machine", "viewers"]);
     script
+}
+
+/// Whether a line keeps the viewers too.
+fn serves(line: &str) -> bool {
+    line == "draw" || line.starts_with("store ")
 }
 
 /// Whether a line is one of the 8088's.

@@ -1,6 +1,7 @@
 //! A run of calls of both processors and of the ports, with one picture kept.
 use super::{Script, ROWS};
 use crate::chain::PAIRS;
+use crate::viewers::VIEWERS;
 
 const TURNS: usize = 320;
 
@@ -8,7 +9,7 @@ pub fn script() -> Script {
     let mut script = Script::new(
         5,
         "A RUN. Stores by both processors, the Z80 held or running, ticks, writes to ports, refused ones \
-         too; one picture kept. Now and then the lines of the whole screen, and why cells show what they show.",
+         too; one picture kept. Now and then the lines of the whole screen, why cells show what they show, and asks.",
     );
     script.lines(&["fill shadow 11", "fill nvm EE", "strew screen 51 40 17"]);
     script.lines(&["strew attribute 52 30 256", "draw"]);
@@ -19,13 +20,17 @@ pub fn script() -> Script {
             11 => shadow(&mut script),
             _ => port(&mut script),
         }
+        if turn % 7 == 0 {
+            script.line(&format!("ask {}", turn / 7 % (VIEWERS + 1)));
+        }
         if turn % 20 == 0 {
+            script.line("viewers");
             script.compare();
             script.line("lines");
             why(&mut script, turn / 20);
         }
     }
-    script.lines(&["machine", "rows"]);
+    script.lines(&["machine", "viewers", "rows"]);
     script
 }
 

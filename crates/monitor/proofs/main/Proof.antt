@@ -1,3 +1,5 @@
+use Prim.Native.Nat.{ℕ, _-_, _<_}
+use native.Mathlib.Omega.{arith}
 use borrow.Author.Needs.{needs}
 use Rattle.monitor.proofs.main.Statement.{statement}
 use Rattle.monitor.proofs.main.Tie as tie
@@ -9,6 +11,12 @@ Inv-loop shared₀ private₀ screen₀ attribute₀ glyphs₀ nvm₀ shadow₀ 
 abbrev μ-loop : tie.MeasureT-loop
 μ-loop shared₀ private₀ screen₀ attribute₀ glyphs₀ nvm₀ shadow₀ picture₀ line₀ lines₀ desk₀ source₀ turns₀ shared private screen attribute glyphs nvm shadow picture line lines desk source turns =
     turns
+
+-- the test of the loop, many steps before
+abbrev tested : (t : tie.After-turn Inv-loop μ-loop) → tie.In-loop Inv-loop μ-loop
+tested t =
+    let lent = t .before .before .before .before .before .before .before .before .before .before .before in
+    lent .before .before .before .before .before
 
 power-up-requires : tie.Need-power-up-requires Inv-loop μ-loop
 power-up-requires c κs = search needs
@@ -35,10 +43,13 @@ turn-requires : tie.Need-turn-requires Inv-loop μ-loop
 turn-requires c κs = search needs
 
 sub-turns : tie.Need-sub-turns Inv-loop μ-loop
-sub-turns c = search needs
+sub-turns c = tested c .loop-test .taken
 
 loop-less : tie.Need-loop-less Inv-loop μ-loop
-loop-less c = search needs
+loop-less c = fewer _ (tested c .loop-test .taken)
+  where
+    fewer : (n : ℕ) → 0 < n → n - 1 < n
+    fewer n h = omega arith
 
 loop-again : tie.Need-loop-again Inv-loop μ-loop
 loop-again c = search needs
