@@ -2,7 +2,7 @@
  *
  *   bench sides              the names of the sides
  *   bench jobs               the names of the jobs
- *   bench times              a line for each job: nanoseconds of each side, best of many
+ *   bench times [WORD]       a line for each job, or each whose name has the word: nanoseconds of each side, best of many
  *   bench count SIDE JOB N   does the job N times and no more, for a tool that counts instructions
  *
  * With WITH_KIT the kit's library is a side too, each of its names with kit_ ahead; with WITH_CLANG the best C as
@@ -34,6 +34,13 @@ typedef rainbow_drawn_for_viewers draw_for_call(rainbow_machine, rainbow_viewers
 typedef rainbow_stored_for_viewers store_for_call(rainbow_machine, rainbow_viewers, uint8_t *, size_t, uint8_t *,
                                                   size_t, uint8_t *, size_t, uint8_t *, size_t, uint32_t, uint8_t);
 
+typedef uint8_t index_call(rainbow_machine, const uint8_t *, size_t, const uint8_t *, size_t, uint8_t *, size_t);
+typedef rainbow_stored store_index_call(rainbow_machine, uint8_t *, size_t, uint8_t *, size_t, uint8_t *, size_t,
+                                        uint8_t *, size_t, uint8_t *, size_t, uint32_t, uint8_t);
+typedef rainbow_stored_for_viewers store_index_for_call(rainbow_machine, rainbow_viewers, uint8_t *, size_t, uint8_t *,
+                                                        size_t, uint8_t *, size_t, uint8_t *, size_t, uint8_t *, size_t,
+                                                        uint32_t, uint8_t);
+
 typedef struct {
     const char *name;
     draw_call *draw;
@@ -45,6 +52,9 @@ typedef struct {
     ask_call *ask;
     draw_for_call *draw_for;
     store_for_call *store_for;
+    index_call *index;
+    store_index_call *store_index;
+    store_index_for_call *store_index_for;
 } side;
 
 #ifdef WITH_KIT
@@ -57,6 +67,9 @@ explain_call kit_rainbow_explain;
 ask_call kit_rainbow_ask;
 draw_for_call kit_rainbow_draw_for_viewers;
 store_for_call kit_rainbow_store_for_viewers;
+index_call kit_rainbow_index_readers;
+store_index_call kit_rainbow_store_with_index;
+store_index_for_call kit_rainbow_store_with_index_for_viewers;
 #endif
 #ifdef WITH_CLANG
 draw_call clang_best_draw;
@@ -67,25 +80,33 @@ explain_call clang_best_explain;
 ask_call clang_best_ask;
 draw_for_call clang_best_draw_for_viewers;
 store_for_call clang_best_store_for_viewers;
+index_call clang_best_index_readers;
+store_index_call clang_best_store_with_index;
+store_index_for_call clang_best_store_with_index_for_viewers;
 #endif
 
 /* The first side is the one that the others are compared with. */
 static const side sides[] = {
     {"rustc", rainbow_draw, rainbow_store_with_picture, rainbow_store_8088, rainbow_scan_line, rainbow_list_lines,
-     rainbow_explain, rainbow_ask, rainbow_draw_for_viewers, rainbow_store_for_viewers},
+     rainbow_explain, rainbow_ask, rainbow_draw_for_viewers, rainbow_store_for_viewers, rainbow_index_readers,
+     rainbow_store_with_index, rainbow_store_with_index_for_viewers},
 #ifdef WITH_KIT
     {"kit", kit_rainbow_draw, kit_rainbow_store_with_picture, kit_rainbow_store_8088, kit_rainbow_scan_line,
      kit_rainbow_list_lines, kit_rainbow_explain, kit_rainbow_ask, kit_rainbow_draw_for_viewers,
-     kit_rainbow_store_for_viewers},
+     kit_rainbow_store_for_viewers, kit_rainbow_index_readers, kit_rainbow_store_with_index,
+     kit_rainbow_store_with_index_for_viewers},
 #endif
     {"plain", plain_draw, plain_store_with_picture, plain_store_8088, plain_scan_line, plain_list_lines, plain_explain,
-     plain_ask, plain_draw_for_viewers, plain_store_for_viewers},
+     plain_ask, plain_draw_for_viewers, plain_store_for_viewers, plain_index_readers, plain_store_with_index,
+     plain_store_with_index_for_viewers},
     {"best", best_draw, best_store_with_picture, plain_store_8088, best_scan_line, best_list_lines, best_explain,
-     best_ask, best_draw_for_viewers, best_store_for_viewers},
+     best_ask, best_draw_for_viewers, best_store_for_viewers, best_index_readers, best_store_with_index,
+     best_store_with_index_for_viewers},
 #ifdef WITH_CLANG
     {"best-clang", clang_best_draw, clang_best_store_with_picture, plain_store_8088, clang_best_scan_line,
      clang_best_list_lines, clang_best_explain, clang_best_ask, clang_best_draw_for_viewers,
-     clang_best_store_for_viewers},
+     clang_best_store_for_viewers, clang_best_index_readers, clang_best_store_with_index,
+     clang_best_store_with_index_for_viewers},
 #endif
 };
 
@@ -94,13 +115,13 @@ enum { SIDES = sizeof sides / sizeof sides[0] };
 /* What is lent. Where memory stands changes what a processor makes of the same instructions, of one side more than of
  * another by chance; so each batch has its own places, there and on the stack, the same for every side. */
 enum { ROOM = 16384 };
-static _Alignas(64) uint8_t room[7][ROOM];
+static _Alignas(64) uint8_t room[8][ROOM];
 static uint8_t shared[RAINBOW_SHARED_BYTES];
-static uint8_t *screen, *attribute, *picture, *fresh, *table, *line, *lines;
+static uint8_t *screen, *attribute, *picture, *fresh, *table, *line, *lines, *first_readers;
 
 static void find_room(unsigned batch) {
-    uint8_t **lent[7] = {&screen, &attribute, &picture, &fresh, &table, &line, &lines};
-    for (unsigned i = 0; i < 7; i++)
+    uint8_t **lent[8] = {&screen, &attribute, &picture, &fresh, &table, &line, &lines, &first_readers};
+    for (unsigned i = 0; i < 8; i++)
         *lent[i] = room[i] + 16 * (batch * (2 * i + 1) * 37 % 256);
 }
 
@@ -111,6 +132,7 @@ static void find_room(unsigned batch) {
 #define TABLE table, RAINBOW_GLYPH_BYTES
 #define LINE line, RAINBOW_LINE_BYTES
 #define LIST lines, RAINBOW_LIST_BYTES
+#define INDEX first_readers, RAINBOW_INDEX_BYTES
 
 static rainbow_machine machine;
 static rainbow_viewers viewers;
@@ -178,6 +200,7 @@ static void lay(layout screens, unsigned wanted, uint8_t kind, uint8_t latch) {
     for (unsigned at = 0; at < RAINBOW_GLYPH_BYTES; at++)
         table[at] = (uint8_t)((at * 2654435761u) >> 13);
     rainbow_draw(machine, SCREEN, ATTRIBUTE, PICTURE);
+    rainbow_index_readers(machine, SCREEN, ATTRIBUTE, INDEX);
     viewers = rainbow_start_viewers();
 }
 
@@ -207,8 +230,7 @@ static void store_link(const side *with) {
 }
 
 /* What a user would do with no mending store: store, draw all again, compare and keep. */
-static void redraw_and_compare(const side *with, unsigned place) {
-    uint8_t byte = screen[place] == 'A' ? 'B' : 'A';
+static void redraw_and_compare(const side *with, unsigned place, uint8_t byte) {
     uint32_t marks = 0;
     with->store_only(machine, SHARED, SCREEN, ATTRIBUTE, 0xEE000 + place, byte);
     with->draw(machine, SCREEN, ATTRIBUTE, fresh, RAINBOW_PICTURE_BYTES);
@@ -222,8 +244,12 @@ static void redraw_and_compare(const side *with, unsigned place) {
     answers = answers * 31 + marks;
 }
 
-static void redraw_unread(const side *with) { redraw_and_compare(with, 4000); }
-static void redraw_row_23(const side *with) { redraw_and_compare(with, start_of[23] + 40); }
+static void redraw_in_turn(const side *with, unsigned place) {
+    redraw_and_compare(with, place, screen[place] == 'A' ? 'B' : 'A');
+}
+
+static void redraw_unread(const side *with) { redraw_in_turn(with, 4000); }
+static void redraw_row_23(const side *with) { redraw_in_turn(with, start_of[23] + 40); }
 
 static void scan_line(const side *with) {
     answers += with->scan_line(machine, PICTURE, TABLE, 5, 4, LINE);
@@ -301,6 +327,75 @@ static void ask(const side *with) {
     answers = answers * 31 + asked.marks * 16 + asked.viewers.waiting[4] + asked.viewers.waiting[5];
 }
 
+/* The same stores, with an index lent. */
+static void index_in_turn(const side *with, unsigned at, uint8_t one, uint8_t other) {
+    uint8_t byte = screen[at] == one ? other : one;
+    rainbow_stored stored = with->store_index(machine, SHARED, SCREEN, ATTRIBUTE, PICTURE, INDEX, 0xEE000 + at, byte);
+    answers = answers * 31 + stored.marks;
+}
+
+static void index_unread(const side *with) { index_in_turn(with, 4000, 'A', 'B'); }
+static void index_row_0(const side *with) { index_in_turn(with, start_of[0] + 40, 'A', 'B'); }
+static void index_cell_4(const side *with) { index_in_turn(with, 4, 'A', 'B'); }
+static void index_row_1(const side *with) { index_in_turn(with, start_of[1] + 20, 'A', 'B'); }
+static void index_row_12(const side *with) { index_in_turn(with, start_of[12] + 40, 'A', 'B'); }
+static void index_row_23(const side *with) { index_in_turn(with, start_of[23] + 40, 'A', 'B'); }
+
+static void index_link(const side *with) {
+    index_in_turn(with, start_of[12] - 2, (uint8_t)start_of[12], (uint8_t)(start_of[12] + 1));
+}
+
+static void index_fresh(const side *with) { answers += with->index(machine, SCREEN, ATTRIBUTE, INDEX); }
+
+static void index_serve(const side *with, unsigned at) {
+    uint8_t byte = screen[at] == 'A' ? 'B' : 'A';
+    rainbow_stored_for_viewers served =
+        with->store_index_for(machine, viewers, SHARED, SCREEN, ATTRIBUTE, PICTURE, INDEX, 0xEE000 + at, byte);
+    viewers = served.viewers;
+    answers = answers * 31 + served.stored.marks;
+}
+
+static void index_serve_unread(const side *with) { index_serve(with, 4000); }
+static void index_serve_row_12(const side *with) { index_serve(with, start_of[12] + 40); }
+
+/* The store with no picture, which an index is to come near to. */
+static void store_blind(const side *with) {
+    uint8_t byte = screen[4000] == 'A' ? 'B' : 'A';
+    answers += with->store_only(machine, SHARED, SCREEN, ATTRIBUTE, 0xEE000 + 4000, byte);
+}
+
+/* A milking: stores of which nine in ten are to bytes that no row reads, half of these in either memory, and one in ten
+ * is to a cell or, one of these in four, to an attribute, in any row. */
+enum { MILKING = 1000 };
+static unsigned stored_so_far;
+
+static unsigned milked_place(unsigned n) {
+    unsigned any = n * 2654435761u >> 8, row = any % RAINBOW_ROWS, cell = any / 32 % 80;
+    if (n % 10 != 7)
+        return (any & 4096) + start_of[RAINBOW_ROWS] + any % (4096 - start_of[RAINBOW_ROWS]);
+    return (n / 10 % 4 == 3 ? 4096 : 0) + start_of[row] + cell;
+}
+
+static void milk(const side *with, void store(const side *, unsigned place, uint8_t byte)) {
+    unsigned n = stored_so_far++ % MILKING;
+    store(with, milked_place(n), (uint8_t)(0x20 + (n + stored_so_far / MILKING) % 64));
+}
+
+static void milk_with_index(const side *with, unsigned place, uint8_t byte) {
+    rainbow_stored stored =
+        with->store_index(machine, SHARED, SCREEN, ATTRIBUTE, PICTURE, INDEX, 0xEE000 + place, byte);
+    answers = answers * 31 + stored.marks;
+}
+
+static void milk_without(const side *with, unsigned place, uint8_t byte) {
+    rainbow_stored stored = with->store(machine, SHARED, SCREEN, ATTRIBUTE, PICTURE, 0xEE000 + place, byte);
+    answers = answers * 31 + stored.marks;
+}
+
+static void milking_index(const side *with) { milk(with, milk_with_index); }
+static void milking_store(const side *with) { milk(with, milk_without); }
+static void milking_redraw(const side *with) { milk(with, redraw_and_compare); }
+
 static const struct job {
     const char *name;
     layout screens;
@@ -353,11 +448,35 @@ static const struct job {
     {"viewers-row-23", FULL, 80, 3, 0, serve_row_23},
     {"viewers-draw", FULL, 80, 3, 0, serve_draw},
     {"viewers-ask", FULL, 80, 3, 0, ask},
+    {"store-blind", FULL, 80, 3, 0, store_blind},
+    {"index-unread", FULL, 80, 3, 0, index_unread},
+    {"index-row-0", FULL, 80, 3, 0, index_row_0},
+    {"index-row-12", FULL, 80, 3, 0, index_row_12},
+    {"index-row-23", FULL, 80, 3, 0, index_row_23},
+    {"index-link", FULL, 80, 3, 0, index_link},
+    {"index-fresh", FULL, 80, 3, 0, index_fresh},
+    {"index-unread-132", FULL, 132, 3, 0, index_unread},
+    {"index-row-12-132", FULL, 132, 3, 0, index_row_12},
+    {"index-fresh-132", FULL, 132, 3, 0, index_fresh},
+    {"index-row-0-short", SHORT, 80, 3, 0, index_cell_4},
+    {"index-fresh-short", SHORT, 80, 3, 0, index_fresh},
+    {"index-row-1-wraps", WRAPS, 80, 3, 0, index_row_1},
+    {"index-fresh-wraps", WRAPS, 80, 3, 0, index_fresh},
+    {"index-row-0-torn", TORN, 80, 3, 0, index_cell_4},
+    {"index-fresh-torn", TORN, 80, 3, 0, index_fresh},
+    {"index-viewers-unread", FULL, 80, 3, 0, index_serve_unread},
+    {"index-viewers-row-12", FULL, 80, 3, 0, index_serve_row_12},
+    {"milking-index", FULL, 80, 3, 0, milking_index},
+    {"milking-store", FULL, 80, 3, 0, milking_store},
+    {"milking-redraw", FULL, 80, 3, 0, milking_redraw},
 };
 
 enum { JOBS = sizeof jobs / sizeof jobs[0], BATCHES = 60, MIXED = 2000 };
 
-static void lay_for(const struct job *job) { lay(job->screens, job->columns, job->kind, job->latch); }
+static void lay_for(const struct job *job) {
+    stored_so_far = 0;
+    lay(job->screens, job->columns, job->kind, job->latch);
+}
 
 static double now(void) {
     struct timespec t;
@@ -374,6 +493,7 @@ static void differ(const char *job, const char *name) {
 typedef struct {
     uint8_t shared[RAINBOW_SHARED_BYTES], screen[RAINBOW_SCREEN_BYTES], attribute[RAINBOW_ATTRIBUTE_BYTES];
     uint8_t picture[RAINBOW_PICTURE_BYTES], line[RAINBOW_LINE_BYTES], lines[RAINBOW_LIST_BYTES];
+    uint8_t index[RAINBOW_INDEX_BYTES];
     rainbow_viewers viewers;
     uint32_t answers;
 } left_behind;
@@ -385,6 +505,7 @@ static void keep(left_behind *left) {
     memcpy(left->picture, picture, sizeof left->picture);
     memcpy(left->line, line, sizeof left->line);
     memcpy(left->lines, lines, sizeof left->lines);
+    memcpy(left->index, first_readers, sizeof left->index);
     left->viewers = viewers;
     left->answers = answers;
 }
@@ -430,6 +551,27 @@ static void mix_viewers(const side *with) {
     answers = answers * 31 + (drawn.drawn.reads * 32u + drawn.drawn.wild_row) * 2u + drawn.drawn.refusal;
 }
 
+/* Stores with an index, which is true or holds any bytes, many of them rows; and one worked out afresh. */
+static void mix_index(const side *with) {
+    unsigned under = choose(2) ? 256 : 26;
+    for (unsigned at = 0; at < RAINBOW_INDEX_BYTES; at++)
+        first_readers[at] = (uint8_t)choose(under);
+    if (choose(2))
+        answers = answers * 31 + with->index(machine, SCREEN, ATTRIBUTE, first_readers,
+                                             RAINBOW_INDEX_BYTES - (choose(10) == 0));
+    for (int i = 0; i < 4; i++) {
+        size_t of_index = RAINBOW_INDEX_BYTES - (choose(10) == 0);
+        rainbow_stored stored = with->store_index(machine, SHARED, SCREEN, ATTRIBUTE, PICTURE, first_readers, of_index,
+                                                  0xEDFF0 + choose(0x2020), (uint8_t)choose(256));
+        answers = answers * 31 + stored.marks * 16 + stored.refusal;
+        rainbow_stored_for_viewers served =
+            with->store_index_for(machine, viewers, SHARED, SCREEN, ATTRIBUTE, PICTURE, INDEX,
+                                  0xEE000 + choose(0x2000), (uint8_t)(choose(8) == 0 ? 0xFF : choose(256)));
+        viewers = served.viewers;
+        answers = answers * 31 + served.stored.marks * 16 + served.stored.refusal;
+    }
+}
+
 /* Memories that are hard to walk, and then a call of each kind, some of them refused. */
 static void mixed(const side *with, unsigned seed) {
     chosen = seed * 2654435761u;
@@ -458,6 +600,7 @@ static void mixed(const side *with, unsigned seed) {
     for (int i = 0; i < 8; i++)
         explain_cell(with, choose(26), choose(134));
     mix_viewers(with);
+    mix_index(with);
 }
 
 static void compare_mixed(void) {
@@ -528,10 +671,11 @@ static int count_job(const char *which, const char *name, int many) {
 
 int main(int words, char **word) {
     find_room(0);
-    if (words == 2 && strcmp(word[1], "times") == 0) {
+    if ((words == 2 || words == 3) && strcmp(word[1], "times") == 0) {
         compare_mixed();
         for (int i = 0; i < JOBS; i++)
-            time_job(&jobs[i]);
+            if (words == 2 || strstr(jobs[i].name, word[2]) != NULL)
+                time_job(&jobs[i]);
         return 0;
     }
     if (words == 2 && strcmp(word[1], "sides") == 0) {
@@ -546,6 +690,6 @@ int main(int words, char **word) {
     }
     if (words == 5 && strcmp(word[1], "count") == 0)
         return count_job(word[2], word[3], atoi(word[4]));
-    fprintf(stderr, "usage: bench sides | bench jobs | bench times | bench count SIDE JOB N\n");
+    fprintf(stderr, "usage: bench sides | bench jobs | bench times [WORD] | bench count SIDE JOB N\n");
     return 2;
 }

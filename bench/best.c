@@ -350,3 +350,173 @@ rainbow_stored_for_viewers best_store_for_viewers(rainbow_machine machine, rainb
             served.viewers.waiting[viewer] |= served.stored.marks;
     return served;
 }
+
+/* Writes a row's number to entries where none stands yet; and, where no number under it is another row's, in the place
+ * of those over it, which takes fewer instructions. Entries are not written twice, since a processor waits where it reads
+ * bytes just written in other pieces. */
+static inline void number_rest(uint8_t *entry, size_t entries, uint8_t row) {
+    for (size_t i = 0; i < entries; i++)
+        entry[i] = entry[i] == RAINBOW_NO_ROW ? row : entry[i];
+}
+
+static inline void number_part(uint8_t *entry, size_t entries, uint8_t row) {
+    for (size_t i = 0; i < entries; i++)
+        entry[i] = row < entry[i] ? row : entry[i];
+}
+
+static void number_places(uint8_t *entries, unsigned start, unsigned bytes, unsigned row) {
+    unsigned straight = PLACES - start;
+    if (bytes <= straight) {
+        number_part(entries + start, bytes, (uint8_t)row);
+        return;
+    }
+    number_part(entries + start, straight, (uint8_t)row);
+    number_part(entries, bytes - straight, (uint8_t)row);
+}
+
+static void number_rest_of_places(uint8_t *entries, unsigned start, unsigned bytes, unsigned row) {
+    unsigned straight = PLACES - start;
+    if (bytes <= straight) {
+        number_rest(entries + start, bytes, (uint8_t)row);
+        return;
+    }
+    number_rest(entries + start, straight, (uint8_t)row);
+    number_rest(entries, bytes - straight, (uint8_t)row);
+}
+
+/* Passes one row, and writes its number to the entries of all that it reads. */
+static void index_row(unsigned columns, const uint8_t *screen, const uint8_t *attribute, head *at, unsigned row,
+                      uint8_t *index) {
+    unsigned start = at->link % PLACES, capacity = capacity_of(columns, at->kind);
+    int ff = find_ff(screen, start, capacity);
+    if (ff < 0) {
+        number_rest_of_places(index, start, capacity + 1, row);
+        number_rest_of_places(index + PLACES, start, capacity, row);
+        *at = dark_row;
+        return;
+    }
+    unsigned cells = (unsigned)ff, low = (start + cells + 1) % PLACES;
+    number_rest_of_places(index, start, cells + 3, row);
+    number_rest_of_places(index + PLACES, start, cells, row);
+    number_rest_of_places(index + PLACES, low, 1, row);
+    *at = link_after(screen, attribute, start + cells);
+}
+
+/* Fills entries with a row's number: sixteen at a time, the last sixteen perhaps twice. */
+static inline void fill_part(uint8_t *entry, size_t entries, uint8_t row) {
+    if (entries < 16) {
+        for (size_t i = 0; i < entries; i++)
+            entry[i] = row;
+        return;
+    }
+    for (size_t i = 0; i + 16 < entries; i += 16)
+        memset(entry + i, row, 16);
+    memset(entry + entries - 16, row, 16);
+}
+
+static void fill_places(uint8_t *entries, unsigned start, unsigned bytes, unsigned row) {
+    unsigned straight = PLACES - start;
+    if (bytes <= straight) {
+        fill_part(entries + start, bytes, (uint8_t)row);
+        return;
+    }
+    fill_part(entries + start, straight, (uint8_t)row);
+    fill_part(entries, bytes - straight, (uint8_t)row);
+}
+
+/* The rows are walked first and numbered from the last to the first, so that no entry has to be read. */
+uint8_t best_index_readers(rainbow_machine machine, const uint8_t *screen, size_t screen_length,
+                           const uint8_t *attribute, size_t attribute_length, uint8_t *index, size_t index_length) {
+    if (screen_length != RAINBOW_SCREEN_BYTES || attribute_length != RAINBOW_ATTRIBUTE_BYTES ||
+        index_length != RAINBOW_INDEX_BYTES)
+        return RAINBOW_REFUSED_LENGTH;
+    struct { unsigned start, cells; bool torn; } rows[RAINBOW_ROWS];
+    unsigned columns = machine.columns132 ? 132 : 80, row = 0;
+    for (head at = first_row; row < RAINBOW_ROWS && !at.dark; row++) {
+        unsigned start = at.link % PLACES, capacity = capacity_of(columns, at.kind);
+        int ff = find_ff(screen, start, capacity);
+        rows[row].start = start;
+        rows[row].torn = ff < 0;
+        rows[row].cells = ff < 0 ? capacity : (unsigned)ff;
+        at = ff < 0 ? dark_row : link_after(screen, attribute, start + (unsigned)ff);
+    }
+    memset(index, RAINBOW_NO_ROW, RAINBOW_INDEX_BYTES);
+    while (row-- > 0) {
+        unsigned start = rows[row].start, cells = rows[row].cells;
+        fill_places(index, start, cells + (rows[row].torn ? 1 : 3), row);
+        fill_places(index + PLACES, start, cells, row);
+        if (!rows[row].torn)
+            index[PLACES + (start + cells + 1) % PLACES] = (uint8_t)row;
+    }
+    return RAINBOW_ACCEPTED;
+}
+
+/* Forgets the entries that are not under a row. A function of its own, since clang would compare four bytes in place of
+ * one if it knew how large the row can be. */
+static __attribute__((noinline)) void forget(uint8_t *index, uint8_t first) {
+    for (size_t at = 0; at < RAINBOW_INDEX_BYTES; at++)
+        index[at] |= index[at] < first ? 0 : 0xFF;
+}
+
+/* Mends picture and index from a row on, and gives the marks. */
+static __attribute__((noinline)) uint32_t mend_both(unsigned columns, const uint8_t *screen, const uint8_t *attribute,
+                                                    uint8_t *picture, uint8_t *index, unsigned first) {
+    uint32_t marks = 0;
+    head at = first_row;
+    forget(index, (uint8_t)first);
+    for (unsigned row = 0; row < first && !at.dark; row++)
+        index_row(columns, screen, attribute, &at, row, index);
+    for (unsigned row = first; row < RAINBOW_ROWS; row++) {
+        uint8_t drawn[RAINBOW_RECORD_BYTES];
+        unsigned start = at.link % PLACES;
+        unsigned reads = draw_row(columns, screen, attribute, &at, drawn);
+        if (reads > 0) {
+            unsigned cells = at.dark ? reads - 1 : reads - 3;
+            number_places(index, start, reads, row);
+            number_places(index + PLACES, start, cells, row);
+            if (!at.dark)
+                number_places(index + PLACES, (start + cells + 1) % PLACES, 1, row);
+        }
+        if (replace(picture + row * RAINBOW_RECORD_BYTES, drawn))
+            marks |= 1u << row;
+    }
+    return marks;
+}
+
+rainbow_stored best_store_with_index(rainbow_machine machine, uint8_t *shared, size_t shared_length, uint8_t *screen,
+                                     size_t screen_length, uint8_t *attribute, size_t attribute_length,
+                                     uint8_t *picture, size_t picture_length, uint8_t *index, size_t index_length,
+                                     uint32_t address, uint8_t byte) {
+    rainbow_stored stored = {RAINBOW_REFUSED_LENGTH, 0};
+    if (picture_length != RAINBOW_PICTURE_BYTES || index_length != RAINBOW_INDEX_BYTES ||
+        shared_length != RAINBOW_SHARED_BYTES || screen_length != RAINBOW_SCREEN_BYTES ||
+        attribute_length != RAINBOW_ATTRIBUTE_BYTES)
+        return stored;
+    unsigned at = address - 0xEE000;
+    if (machine.reset || at >= RAINBOW_INDEX_BYTES) {
+        stored.refusal = plain_store_8088(machine, shared, shared_length, screen, screen_length, attribute,
+                                          attribute_length, address, byte);
+        return stored;
+    }
+    stored.refusal = RAINBOW_ACCEPTED;
+    (at < PLACES ? screen : attribute)[at % PLACES] = byte;
+    unsigned first = index[at];
+    if (first < RAINBOW_ROWS)
+        stored.marks = mend_both(machine.columns132 ? 132 : 80, screen, attribute, picture, index, first);
+    return stored;
+}
+
+rainbow_stored_for_viewers best_store_with_index_for_viewers(
+    rainbow_machine machine, rainbow_viewers viewers, uint8_t *shared, size_t shared_length, uint8_t *screen,
+    size_t screen_length, uint8_t *attribute, size_t attribute_length, uint8_t *picture, size_t picture_length,
+    uint8_t *index, size_t index_length, uint32_t address, uint8_t byte) {
+    rainbow_stored_for_viewers served;
+    served.stored = best_store_with_index(machine, shared, shared_length, screen, screen_length, attribute,
+                                          attribute_length, picture, picture_length, index, index_length, address,
+                                          byte);
+    served.viewers = viewers;
+    if (served.stored.marks != 0)
+        for (int viewer = 0; viewer < RAINBOW_VIEWERS; viewer++)
+            served.viewers.waiting[viewer] |= served.stored.marks;
+    return served;
+}

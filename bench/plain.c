@@ -296,3 +296,89 @@ rainbow_stored_for_viewers plain_store_for_viewers(rainbow_machine machine, rain
         served.viewers.waiting[viewer] |= served.stored.marks;
     return served;
 }
+
+/* Writes a row's number to the entries of so many places from a start on, where none stands yet. */
+static void number_places(uint8_t *entries, unsigned start, unsigned bytes, unsigned row) {
+    for (unsigned i = 0; i < bytes; i++) {
+        uint8_t *entry = &entries[(start + i) % PLACES];
+        if (*entry == RAINBOW_NO_ROW)
+            *entry = (uint8_t)row;
+    }
+}
+
+/* Passes one row, and writes its number to the entries of all that it reads. */
+static void index_row(unsigned columns, const uint8_t *screen, const uint8_t *attribute, head *at, unsigned row,
+                      uint8_t *index) {
+    if (at->dark)
+        return;
+    unsigned capacity = capacity_of(columns, at->kind), start = at->link % PLACES, cells = 0;
+    while (cells < capacity && screen[(start + cells) % PLACES] != 0xFF)
+        cells++;
+    number_places(index + PLACES, start, cells, row);
+    if (screen[(start + cells) % PLACES] != 0xFF) {
+        number_places(index, start, capacity + 1, row);
+        at->link = 0, at->kind = 3, at->dark = true;
+        return;
+    }
+    number_places(index, start, cells + 3, row);
+    number_places(index + PLACES, start + cells + 1, 1, row);
+    *at = link_after(screen, attribute, (start + cells) % PLACES);
+}
+
+uint8_t plain_index_readers(rainbow_machine machine, const uint8_t *screen, size_t screen_length,
+                            const uint8_t *attribute, size_t attribute_length, uint8_t *index, size_t index_length) {
+    if (screen_length != RAINBOW_SCREEN_BYTES || attribute_length != RAINBOW_ATTRIBUTE_BYTES ||
+        index_length != RAINBOW_INDEX_BYTES)
+        return RAINBOW_REFUSED_LENGTH;
+    head at = {0, 3, false};
+    for (unsigned place = 0; place < RAINBOW_INDEX_BYTES; place++)
+        index[place] = RAINBOW_NO_ROW;
+    for (unsigned row = 0; row < RAINBOW_ROWS; row++)
+        index_row(machine.columns132 ? 132 : 80, screen, attribute, &at, row, index);
+    return RAINBOW_ACCEPTED;
+}
+
+rainbow_stored plain_store_with_index(rainbow_machine machine, uint8_t *shared, size_t shared_length, uint8_t *screen,
+                                      size_t screen_length, uint8_t *attribute, size_t attribute_length,
+                                      uint8_t *picture, size_t picture_length, uint8_t *index, size_t index_length,
+                                      uint32_t address, uint8_t byte) {
+    rainbow_stored stored = {RAINBOW_REFUSED_LENGTH, 0};
+    if (picture_length != RAINBOW_PICTURE_BYTES || index_length != RAINBOW_INDEX_BYTES)
+        return stored;
+    stored.refusal = plain_store_8088(machine, shared, shared_length, screen, screen_length, attribute,
+                                      attribute_length, address, byte);
+    if (stored.refusal != RAINBOW_ACCEPTED || address < 0xEE000)
+        return stored;
+    unsigned columns = machine.columns132 ? 132 : 80, first = index[address - 0xEE000];
+    if (first >= RAINBOW_ROWS)
+        return stored;
+    for (unsigned place = 0; place < RAINBOW_INDEX_BYTES; place++)
+        if (index[place] >= first)
+            index[place] = RAINBOW_NO_ROW;
+    head at = {0, 3, false};
+    for (unsigned row = 0; row < RAINBOW_ROWS; row++) {
+        head before = at;
+        index_row(columns, screen, attribute, &at, row, index);
+        if (row < first)
+            continue;
+        uint8_t drawn[RAINBOW_RECORD_BYTES], *record = picture + row * RAINBOW_RECORD_BYTES;
+        draw_row(columns, screen, attribute, &before, drawn);
+        if (memcmp(record, drawn, sizeof drawn) != 0) {
+            memcpy(record, drawn, sizeof drawn);
+            stored.marks |= 1u << row;
+        }
+    }
+    return stored;
+}
+
+rainbow_stored_for_viewers plain_store_with_index_for_viewers(
+    rainbow_machine machine, rainbow_viewers viewers, uint8_t *shared, size_t shared_length, uint8_t *screen,
+    size_t screen_length, uint8_t *attribute, size_t attribute_length, uint8_t *picture, size_t picture_length,
+    uint8_t *index, size_t index_length, uint32_t address, uint8_t byte) {
+    rainbow_stored_for_viewers served = {plain_store_with_index(machine, shared, shared_length, screen, screen_length,
+                                                                attribute, attribute_length, picture, picture_length,
+                                                                index, index_length, address, byte), viewers};
+    for (int viewer = 0; viewer < RAINBOW_VIEWERS; viewer++)
+        served.viewers.waiting[viewer] |= served.stored.marks;
+    return served;
+}

@@ -35,6 +35,19 @@ rainbow_stored_for_viewers plain_store_for_viewers(rainbow_machine machine, rain
                                                    uint8_t *attribute, size_t attribute_length, uint8_t *picture,
                                                    size_t picture_length, uint32_t address, uint8_t byte);
 
+uint8_t plain_index_readers(rainbow_machine machine, const uint8_t *screen, size_t screen_length,
+                            const uint8_t *attribute, size_t attribute_length, uint8_t *index, size_t index_length);
+
+rainbow_stored plain_store_with_index(rainbow_machine machine, uint8_t *shared, size_t shared_length, uint8_t *screen,
+                                      size_t screen_length, uint8_t *attribute, size_t attribute_length,
+                                      uint8_t *picture, size_t picture_length, uint8_t *index, size_t index_length,
+                                      uint32_t address, uint8_t byte);
+
+rainbow_stored_for_viewers plain_store_with_index_for_viewers(
+    rainbow_machine machine, rainbow_viewers viewers, uint8_t *shared, size_t shared_length, uint8_t *screen,
+    size_t screen_length, uint8_t *attribute, size_t attribute_length, uint8_t *picture, size_t picture_length,
+    uint8_t *index, size_t index_length, uint32_t address, uint8_t byte);
+
 uint8_t plain_store_8088(rainbow_machine machine, uint8_t *shared, size_t shared_length, uint8_t *screen,
                          size_t screen_length, uint8_t *attribute, size_t attribute_length, uint32_t address,
                          uint8_t byte);

@@ -12,7 +12,7 @@
 long read(int file, void *bytes, size_t length);
 long write(int file, const void *bytes, size_t length);
 
-enum { GUARD = 64, MOST = 2 * RAINBOW_SHARED_BYTES, BUFFERS = 4, FUNCTIONS = 28, FIRST_OF_VIEWERS = 24 };
+enum { GUARD = 64, MOST = 2 * RAINBOW_SHARED_BYTES, BUFFERS = 5, FUNCTIONS = 31, FIRST_OF_VIEWERS = 26 };
 
 /* Each buffer has bytes before it and after it that no call may change. */
 static uint8_t memory[BUFFERS][GUARD + MOST + GUARD];
@@ -152,15 +152,15 @@ static answer serve_viewers(uint8_t function, rainbow_machine machine, rainbow_v
     size_t *l = length;
     answer a = {0, 0, 0, {0}, {0}, {0}, {{0}}};
     switch (function) {
-    case 24: a.viewers = rainbow_start_viewers(); break;
-    case 25: {
+    case 26: a.viewers = rainbow_start_viewers(); break;
+    case 27: {
         rainbow_asked asked = rainbow_ask(viewers, m);
         a.refusal = asked.refusal;
         a.value = asked.marks;
         a.viewers = asked.viewers;
         break;
     }
-    case 26: {
+    case 28: {
         rainbow_drawn_for_viewers served =
             rainbow_draw_for_viewers(machine, viewers, b[0], l[0], b[1], l[1], b[2], l[2]);
         a.drawn = served.drawn;
@@ -170,8 +170,12 @@ static answer serve_viewers(uint8_t function, rainbow_machine machine, rainbow_v
         break;
     }
     default: {
-        rainbow_stored_for_viewers served = rainbow_store_for_viewers(
-            machine, viewers, b[0], l[0], b[1], l[1], b[2], l[2], b[3], l[3], (uint32_t)m, (uint8_t)n);
+        rainbow_stored_for_viewers served =
+            function == 29
+                ? rainbow_store_for_viewers(machine, viewers, b[0], l[0], b[1], l[1], b[2], l[2], b[3], l[3],
+                                            (uint32_t)m, (uint8_t)n)
+                : rainbow_store_with_index_for_viewers(machine, viewers, b[0], l[0], b[1], l[1], b[2], l[2], b[3],
+                                                       l[3], b[4], l[4], (uint32_t)m, (uint8_t)n);
         a.refusal = served.stored.refusal;
         a.value = served.stored.marks;
         a.viewers = served.viewers;
@@ -233,9 +237,17 @@ static answer call(uint8_t function, rainbow_machine machine, uint64_t m, uint64
     }
     case 21: a.refusal = rainbow_scan_line(machine, b[0], l[0], b[1], l[1], m, n, b[2], l[2]); break;
     case 22: a.refusal = rainbow_list_lines(machine, b[0], l[0], b[1], l[1]); break;
-    default:
+    case 23:
         a.explained = rainbow_explain(machine, b[0], l[0], b[1], l[1], m, n);
         a.refusal = a.explained.refusal;
+        break;
+    case 24: a.refusal = rainbow_index_readers(machine, b[0], l[0], b[1], l[1], b[2], l[2]); break;
+    default: {
+        rainbow_stored stored = rainbow_store_with_index(machine, b[0], l[0], b[1], l[1], b[2], l[2], b[3], l[3], b[4],
+                                                         l[4], (uint32_t)m, (uint8_t)n);
+        a.refusal = stored.refusal;
+        a.value = stored.marks;
+    }
     }
     return a;
 }

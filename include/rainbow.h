@@ -30,7 +30,7 @@ extern "C" {
 
 /* Raised by every new call and every change of a number, a struct or a rule of this file. rainbow_version() is the
  * library's own. */
-#define RAINBOW_VERSION 8
+#define RAINBOW_VERSION 9
 
 /* The length of each buffer, in bytes. */
 #define RAINBOW_SHARED_BYTES 65536
@@ -43,6 +43,7 @@ extern "C" {
 #define RAINBOW_PICTURE_BYTES 6700
 #define RAINBOW_LINE_BYTES 1188
 #define RAINBOW_LIST_BYTES 480
+#define RAINBOW_INDEX_BYTES 8192
 
 /* The numbers of refusal. */
 #define RAINBOW_ACCEPTED 0
@@ -67,6 +68,9 @@ extern "C" {
 #define RAINBOW_PAIRS_AT 4
 #define RAINBOW_TORN 255
 #define RAINBOW_DARK 254
+
+/* The entry of the index for a place that no row reads. */
+#define RAINBOW_NO_ROW 255
 
 /* The columns that may be asked of a row, 0 to 131, whatever the column setting is. */
 #define RAINBOW_COLUMNS 132
@@ -148,7 +152,7 @@ typedef struct rainbow_drawn_for_viewers {
     rainbow_viewers viewers;
 } rainbow_drawn_for_viewers;
 
-/* The answer of a store that serves viewers: that of rainbow_store_with_picture, and the viewers afterwards. */
+/* The answer of a store that serves viewers: that of the store for one screen alone, and the viewers afterwards. */
 typedef struct rainbow_stored_for_viewers {
     rainbow_stored stored;
     rainbow_viewers viewers;
@@ -232,7 +236,7 @@ bool rainbow_graphics(rainbow_machine machine);
  * the watchdog was enabled before, a write to 0C of any code but 09 leaves the count.
  * 0A: every byte is a code, and is held; the Z80 runs only while bit 0 of it is set. Bit 6 going from 0 to 1 copies
  * shadow to NVM, bit 7 going from 0 to 1 copies NVM to shadow.
- * Draw the picture afresh after a change of the column setting.
+ * Draw the picture, and work out the index, afresh after a change of the column setting.
  * Refused: 1, 8, 3, 4, 6. */
 rainbow_written rainbow_write_port(rainbow_machine machine, uint8_t *shadow, size_t shadow_length, uint8_t *nvm,
                                    size_t nvm_length, uint16_t port, uint8_t code);
@@ -243,7 +247,7 @@ rainbow_byte_read rainbow_read_8088(rainbow_machine machine, const uint8_t *shar
                                     const uint8_t *screen, size_t screen_length, const uint8_t *attribute,
                                     size_t attribute_length, uint32_t address);
 
-/* The 8088's store with no picture lent: changes the one byte, and leaves a kept picture behind.
+/* The 8088's store with no picture lent: changes the one byte, and leaves a kept picture and a kept index behind.
  * The answer is the refusal: 1, 8, 2. */
 uint8_t rainbow_store_8088(rainbow_machine machine, uint8_t *shared, size_t shared_length, uint8_t *screen,
                            size_t screen_length, uint8_t *attribute, size_t attribute_length, uint32_t address,
@@ -278,22 +282,45 @@ rainbow_drawn rainbow_draw(rainbow_machine machine, const uint8_t *screen, size_
                            size_t picture_length);
 
 /* The 8088's store with a picture lent, for every picture: the byte is stored; the records ahead of the first row
- * that read it stay, those from it on become those of the walk after the store. A true picture stays true.
- * Refused: 1, 8, 2. */
+ * that read it stay, those from it on become those of the walk after the store. A true picture stays true; a kept index
+ * is left behind. Refused: 1, 8, 2. */
 rainbow_stored rainbow_store_with_picture(rainbow_machine machine, uint8_t *shared, size_t shared_length,
                                           uint8_t *screen, size_t screen_length, uint8_t *attribute,
                                           size_t attribute_length, uint8_t *picture, size_t picture_length,
                                           uint32_t address, uint8_t byte);
 
+/* Works the index out afresh: for each place of screen memory, 0 to 4095, and then for each of attribute memory, the
+ * number of the first row, 0 to 24, that reads it, or RAINBOW_NO_ROW. A row reads its cells, its FF and the two bytes
+ * of its link, and the attribute bytes beside its cells and beside the low byte of its link; a torn row reads its
+ * capacity + 1 bytes and the attribute bytes beside all of these but the last; a dark row reads nothing. The rows are
+ * those of the walk that rainbow_draw makes. The answer is the refusal: 1. */
+uint8_t rainbow_index_readers(rainbow_machine machine, const uint8_t *screen, size_t screen_length,
+                              const uint8_t *attribute, size_t attribute_length, uint8_t *index,
+                              size_t index_length);
+
+/* The 8088's store with a picture and an index lent, for every picture and every index: the byte is stored. Let f be
+ * the index's entry for it. If f is over 24, or the byte is one of shared memory, which has no entry, picture and index
+ * stay and the marks are 0. Otherwise the records ahead of f stay and those from f on become those of the walk after
+ * the store; entries of the index whose value is under f stay, and the others become those of the memories after it.
+ * With a true index the answer and all that is left are those of rainbow_store_with_picture, and a true index stays
+ * true. A store of a byte that no row reads looks at one entry, and its cost does not grow with the screen. The 8088's
+ * other stores to screen or attribute memory leave a kept index behind: after one of them, and after a change of the
+ * column setting, call rainbow_index_readers.
+ * Refused: 1, 8, 2. */
+rainbow_stored rainbow_store_with_index(rainbow_machine machine, uint8_t *shared, size_t shared_length,
+                                        uint8_t *screen, size_t screen_length, uint8_t *attribute,
+                                        size_t attribute_length, uint8_t *picture, size_t picture_length,
+                                        uint8_t *index, size_t index_length, uint32_t address, uint8_t byte);
+
 /* Whether bit `row` of the marks is set. No bit from 32 up is. */
 bool rainbow_is_marked(uint32_t marks, size_t row);
 
 /* The viewers at the start: all rows wait for all, so each number is 01FFFFFF. The caller keeps the viewers, hands them
- * to each of the three calls below, and keeps what comes back; they may hold any numbers. A viewer that has its own
+ * to each of the four calls below, and keeps what comes back; they may hold any numbers. A viewer that has its own
  * copy of the picture, and takes over the records that are marked each time it asks, has the picture as it is. For
- * that every store and every drawing has to be one that serves viewers: rainbow_store_with_picture and rainbow_draw
- * change the picture and tell no viewer, and rainbow_store_8088 leaves even the picture behind. After such a call, and
- * after a change of the column setting, draw by rainbow_draw_for_viewers. */
+ * that every store and every drawing has to be one that serves viewers: rainbow_store_with_picture,
+ * rainbow_store_with_index and rainbow_draw change the picture and tell no viewer, and rainbow_store_8088 leaves even
+ * the picture behind. After such a call, and after a change of the column setting, draw by rainbow_draw_for_viewers. */
 rainbow_viewers rainbow_start_viewers(void);
 
 /* Hands viewer 0 to 7 the marks that wait for it, and clears them. No other viewer's change. Refused: 10. */
@@ -310,6 +337,12 @@ rainbow_stored_for_viewers rainbow_store_for_viewers(rainbow_machine machine, ra
                                                      size_t shared_length, uint8_t *screen, size_t screen_length,
                                                      uint8_t *attribute, size_t attribute_length, uint8_t *picture,
                                                      size_t picture_length, uint32_t address, uint8_t byte);
+
+/* rainbow_store_with_index, and its marks are added to those that wait for each viewer. Refused: 1, 8, 2. */
+rainbow_stored_for_viewers rainbow_store_with_index_for_viewers(
+    rainbow_machine machine, rainbow_viewers viewers, uint8_t *shared, size_t shared_length, uint8_t *screen,
+    size_t screen_length, uint8_t *attribute, size_t attribute_length, uint8_t *picture, size_t picture_length,
+    uint8_t *index, size_t index_length, uint32_t address, uint8_t byte);
 
 /* Says why a row, 0 to 24, shows what it shows in a column, 0 to 131: the rows are those of the walk that rainbow_draw
  * makes, and no picture is lent. All places are places of screen memory, 0 to 4095. The answer is the first of these

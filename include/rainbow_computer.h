@@ -1,11 +1,12 @@
-/* A whole Rainbow in one struct: all memories, the picture, the viewers and the machine, and the calls of rainbow.h on
- * it.
+/* A whole Rainbow in one struct: all memories, the picture, the index, the viewers and the machine, and the calls of
+ * rainbow.h on it.
  *
  * Nothing here is proved. Each function hands the struct's own buffers, with their lengths, to a proved call, so
- * that no two can be swapped and none can have a wrong length. The picture is kept as long as memories and machine
- * change by these functions alone: a write to a port that changes the column setting draws it afresh by itself.
- * After a change of c.screen, c.attribute or c.machine by hand, call rainbow_computer_draw. Each store and each drawing
- * serves the eight viewers: rainbow_computer_ask tells one which records to take over.
+ * that no two can be swapped and none can have a wrong length. The picture and the index of first readers are kept as
+ * long as memories and machine change by these functions alone: a write to a port that changes the column setting makes
+ * both afresh by itself. After a change of c.screen, c.attribute, c.index or c.machine by hand, call
+ * rainbow_computer_draw. Each store goes by the index, so that one into a byte which no row reads costs little. Each
+ * store and each drawing serves the eight viewers: rainbow_computer_ask tells one which records to take over.
  *
  *     static rainbow_computer c;
  *     rainbow_computer_power_up(&c);
@@ -28,13 +29,14 @@ typedef struct rainbow_computer {
     uint8_t nvm[RAINBOW_NVM_BYTES];
     uint8_t shadow[RAINBOW_SHADOW_BYTES];
     uint8_t picture[RAINBOW_PICTURE_BYTES];
-    uint8_t line[RAINBOW_LINE_BYTES]; /* the scan line drawn last */
-    uint8_t list[RAINBOW_LIST_BYTES]; /* the lines of the whole screen, listed last */
-    rainbow_viewers viewers;          /* the marks that wait for each viewer */
+    uint8_t line[RAINBOW_LINE_BYTES];   /* the scan line drawn last */
+    uint8_t list[RAINBOW_LIST_BYTES];   /* the lines of the whole screen, listed last */
+    uint8_t index[RAINBOW_INDEX_BYTES]; /* the first row that reads each place of screen, then of attribute memory */
+    rainbow_viewers viewers;            /* the marks that wait for each viewer */
     rainbow_machine machine;
 } rainbow_computer;
 
-RAINBOW_SIZE(rainbow_computer, 88796);
+RAINBOW_SIZE(rainbow_computer, 96988);
 
 /* What a record of the picture says of its row. */
 typedef struct rainbow_row {
@@ -71,19 +73,21 @@ static inline const char *rainbow_refusal_text(uint8_t refusal)
     }
 }
 
-/* Draws the picture afresh, and all rows wait for all viewers. The answer has how many bytes were read, and the first
- * row whose link is wild. */
+/* Draws the picture and works the index out, both afresh, and all rows wait for all viewers. The answer has how many
+ * bytes were read, and the first row whose link is wild. */
 static inline rainbow_drawn rainbow_computer_draw(rainbow_computer *c)
 {
     rainbow_drawn_for_viewers served =
         rainbow_draw_for_viewers(c->machine, c->viewers, c->screen, sizeof c->screen, c->attribute, sizeof c->attribute,
                                  c->picture, sizeof c->picture);
+    rainbow_index_readers(c->machine, c->screen, sizeof c->screen, c->attribute, sizeof c->attribute, c->index,
+                          sizeof c->index);
     c->viewers = served.viewers;
     return served.drawn;
 }
 
-/* The machine as at power-up, the viewers as at their start, and the picture of the memories as they are: no memory
- * changes. The answer is that of rainbow_computer_draw. */
+/* The machine as at power-up, the viewers as at their start, and picture and index of the memories as they are: no
+ * memory changes. The answer is that of rainbow_computer_draw. */
 static inline rainbow_drawn rainbow_computer_power_up(rainbow_computer *c)
 {
     c->machine = rainbow_power_up();
@@ -98,12 +102,14 @@ static inline rainbow_byte_read rainbow_computer_read(const rainbow_computer *c,
                              sizeof c->attribute, address);
 }
 
-/* The 8088 stores, the picture is mended, and the marks wait for each viewer. Refused: 8, 2. */
+/* The 8088 stores, picture and index are mended from the row that the index names for the byte, and the marks wait for
+ * each viewer. Refused: 8, 2. */
 static inline rainbow_stored rainbow_computer_store(rainbow_computer *c, uint32_t address, uint8_t byte)
 {
     rainbow_stored_for_viewers served =
-        rainbow_store_for_viewers(c->machine, c->viewers, c->shared, sizeof c->shared, c->screen, sizeof c->screen,
-                                  c->attribute, sizeof c->attribute, c->picture, sizeof c->picture, address, byte);
+        rainbow_store_with_index_for_viewers(c->machine, c->viewers, c->shared, sizeof c->shared, c->screen,
+                                             sizeof c->screen, c->attribute, sizeof c->attribute, c->picture,
+                                             sizeof c->picture, c->index, sizeof c->index, address, byte);
     c->viewers = served.viewers;
     return served.stored;
 }
@@ -143,8 +149,8 @@ static inline uint8_t rainbow_computer_write_shadow(rainbow_computer *c, size_t 
     return rainbow_write_shadow(c->machine, c->shadow, sizeof c->shadow, place, value);
 }
 
-/* Writes a code to a port. If the column setting changes, the picture is drawn afresh, so that all rows wait for all
- * viewers; bit r of the marks is set exactly when record r changed. Refused: 8, 3, 4, 6. */
+/* Writes a code to a port. If the column setting changes, picture and index are made afresh, so that all rows wait for
+ * all viewers; bit r of the marks is set exactly when record r changed. Refused: 8, 3, 4, 6. */
 static inline rainbow_stored rainbow_computer_write_port(rainbow_computer *c, uint16_t port, uint8_t code)
 {
     uint8_t before[RAINBOW_PICTURE_BYTES];

@@ -5,9 +5,10 @@
     computer.load(screen, attribute)
     print(computer.text(0))
 
-A Computer holds all memories, the picture, the viewers and the machine. Its methods are the
-functions of include/rainbow_computer.h; include/rainbow.h has the rule of each call. A call that is
-refused raises Refused and changes nothing. A number that the C type cannot hold raises ValueError.
+A Computer holds all memories, the picture, the index, the viewers and the machine. Its methods are
+the functions of include/rainbow_computer.h; include/rainbow.h has the rule of each call. A call
+that is refused raises Refused and changes nothing. A number that the C type cannot hold raises
+ValueError.
 """
 import ctypes
 import ctypes.util
@@ -17,17 +18,18 @@ from ctypes import c_bool, c_size_t, c_uint8, c_uint16, c_uint32
 from typing import NamedTuple, Optional
 
 # The numbers of include/rainbow.h, by the same names: first its version.
-VERSION = 8
+VERSION = 9
 SHARED_BYTES, PRIVATE_BYTES = 65536, 2048
 SCREEN_BYTES, ATTRIBUTE_BYTES, GLYPH_BYTES = 4096, 4096, 4096
 NVM_BYTES, SHADOW_BYTES = 256, 256
-PICTURE_BYTES, LINE_BYTES, LIST_BYTES = 6700, 1188, 480
+PICTURE_BYTES, LINE_BYTES, LIST_BYTES, INDEX_BYTES = 6700, 1188, 480, 8192
 ACCEPTED, REFUSED_LENGTH, REFUSED_ADDRESS, REFUSED_PORT = 0, 1, 2, 3
 REFUSED_CODE, REFUSED_PLACE, REFUSED_EDGES = 4, 5, 6
 REFUSED_Z80_HELD, REFUSED_IN_RESET, REFUSED_LATCH, REFUSED_VIEWER = 7, 8, 9, 10
 ROWS, RECORD_BYTES, KIND_AT, COUNT_AT, PAIRS_AT = 25, 268, 2, 3, 4
 PAIRS = 132
 TORN, DARK = 255, 254
+NO_ROW = 255
 COLUMNS = 132
 WHY_CELL, WHY_FILL, WHY_PAST, WHY_DARK = 1, 2, 3, 4
 FIRST_SCAN, LAST_SCAN = 1, 10
@@ -207,12 +209,16 @@ FUNCTIONS = {
     "rainbow_write_shadow": (c_uint8, [Machine] + _LENT + [c_size_t, c_uint8]),
     "rainbow_draw": (Drawn, [Machine] + _LENT * 3),
     "rainbow_store_with_picture": (Stored, [Machine] + _LENT * 4 + [c_uint32, c_uint8]),
+    "rainbow_index_readers": (c_uint8, [Machine] + _LENT * 3),
+    "rainbow_store_with_index": (Stored, [Machine] + _LENT * 5 + [c_uint32, c_uint8]),
     "rainbow_is_marked": (c_bool, [c_uint32, c_size_t]),
     "rainbow_start_viewers": (Viewers, []),
     "rainbow_ask": (Asked, [Viewers, c_size_t]),
     "rainbow_draw_for_viewers": (DrawnForViewers, [Machine, Viewers] + _LENT * 3),
     "rainbow_store_for_viewers": (StoredForViewers,
                                   [Machine, Viewers] + _LENT * 4 + [c_uint32, c_uint8]),
+    "rainbow_store_with_index_for_viewers": (StoredForViewers, [Machine, Viewers] + _LENT * 5
+                                             + [c_uint32, c_uint8]),
     "rainbow_explain": (Explained, [Machine] + _LENT * 2 + [c_size_t] * 2),
     "rainbow_glyph_part": (PartPlace, _LENT + [c_uint8]),
     "rainbow_scan_line": (c_uint8, [Machine] + _LENT * 2 + [c_size_t] * 2 + _LENT),
@@ -265,11 +271,13 @@ def marked_rows(marks):
 
 
 class Computer(ctypes.Structure):
-    """A whole Rainbow: at first all zeros, the machine at power-up, the picture drawn.
+    """A whole Rainbow: at first all zeros, the machine at power-up, the picture drawn and the index
+    worked out.
 
-    The picture is kept as long as memories and machine change by the methods alone. After a change
-    of screen, attribute or machine by hand, call draw(). Each store and each drawing serves the
-    eight viewers: ask() tells one which rows to take over.
+    The picture and the index of first readers are kept as long as memories and machine change by
+    the methods alone. After a change of screen, attribute, index or machine by hand, call draw().
+    Each store goes by the index, so that one into a byte which no row reads costs little. Each
+    store and each drawing serves the eight viewers: ask() tells one which rows to take over.
     """
 
     _fields_ = [("shared", c_uint8 * SHARED_BYTES), ("private_memory", c_uint8 * PRIVATE_BYTES),
@@ -277,7 +285,7 @@ class Computer(ctypes.Structure):
                 ("glyphs", c_uint8 * GLYPH_BYTES), ("nvm", c_uint8 * NVM_BYTES),
                 ("shadow", c_uint8 * SHADOW_BYTES), ("picture", c_uint8 * PICTURE_BYTES),
                 ("line", c_uint8 * LINE_BYTES), ("list", c_uint8 * LIST_BYTES),
-                ("viewers", Viewers), ("machine", Machine)]
+                ("index", c_uint8 * INDEX_BYTES), ("viewers", Viewers), ("machine", Machine)]
 
     marked_rows = staticmethod(marked_rows)
 
@@ -293,10 +301,13 @@ class Computer(ctypes.Structure):
         return self.draw()
 
     def draw(self):
-        """Draws the picture afresh, and all rows wait for all viewers. The answer is a Drawing: how
-        many bytes of screen memory were read, and the first row whose link is wild."""
-        memories = self.screen, self.attribute, self.picture
-        served = _call("rainbow_draw_for_viewers", self.machine, self.viewers, *memories)
+        """Draws the picture and works the index out, both afresh, and all rows wait for all
+        viewers. The answer is a Drawing: how many bytes of screen memory were read, and the first
+        row whose link is wild."""
+        memories = self.screen, self.attribute
+        served = _call("rainbow_draw_for_viewers", self.machine, self.viewers, *memories,
+                       self.picture)
+        _call("rainbow_index_readers", self.machine, *memories, self.index)
         self.viewers, drawn = served.viewers, served.drawn
         return Drawing(drawn.reads, drawn.wild_row if drawn.wild else None)
 
@@ -317,11 +328,12 @@ class Computer(ctypes.Structure):
         return _call("rainbow_read_8088", self.machine, *memories, address).byte
 
     def store(self, address, byte):
-        """The 8088 stores, the picture is mended, and the marks wait for each viewer. The answer is
-        the marks: bit r is set exactly when record r changed. Refused: 8, 2."""
-        memories = self.shared, self.screen, self.attribute, self.picture
-        served = _call("rainbow_store_for_viewers", self.machine, self.viewers, *memories, address,
-                       byte)
+        """The 8088 stores, picture and index are mended from the row that the index names for the
+        byte, and the marks wait for each viewer. The answer is the marks: bit r is set exactly when
+        record r changed. Refused: 8, 2."""
+        memories = self.shared, self.screen, self.attribute, self.picture, self.index
+        served = _call("rainbow_store_with_index_for_viewers", self.machine, self.viewers,
+                       *memories, address, byte)
         self.viewers = served.viewers
         return served.stored.marks
 
@@ -332,6 +344,14 @@ class Computer(ctypes.Structure):
         asked = _call("rainbow_ask", self.viewers, viewer)
         self.viewers = asked.viewers
         return asked.marks
+
+    def first_row(self, place, beside=False):
+        """The first row that reads a place of screen memory, 0 to 4095, or the attribute byte
+        beside it, as the index has it; None if no row does. Refused: 5."""
+        if _number(place, c_size_t) >= SCREEN_BYTES:
+            raise Refused(REFUSED_PLACE)
+        row = self.index[SCREEN_BYTES + place if beside else place]
+        return row if row < ROWS else None
 
     def read_z80(self, address):
         """The byte that the Z80 reads. Refused: 7."""
@@ -352,9 +372,9 @@ class Computer(ctypes.Structure):
         _call("rainbow_write_shadow", self.machine, self.shadow, place, value)
 
     def write_port(self, port, code):
-        """Writes a code to a port. If the column setting changes, the picture is drawn afresh, and
-        the answer is the marks of the records that changed, else 0; for the viewers it is a
-        drawing. Refused: 8, 3, 4, 6."""
+        """Writes a code to a port. If the column setting changes, picture and index are made
+        afresh, and the answer is the marks of the records that changed, else 0; for the viewers it
+        is a drawing. Refused: 8, 3, 4, 6."""
         columns = self.columns
         written = _call("rainbow_write_port", self.machine, self.shadow, self.nvm, port, code)
         self.machine = written.machine
@@ -464,7 +484,7 @@ SIZES = {"size_t": (c_size_t, 8), "bool": (c_bool, 1), "rainbow_machine": (Machi
          "rainbow_drawn_for_viewers": (DrawnForViewers, 40),
          "rainbow_stored_for_viewers": (StoredForViewers, 40),
          "rainbow_explained": (Explained, 10), "rainbow_part_place": (PartPlace, 24),
-         "rainbow_computer": (Computer, 88796)}
+         "rainbow_computer": (Computer, 96988)}
 
 
 def check_sizes(sizes):

@@ -2,8 +2,8 @@
 
 The cases P1 to P13 are those of document 01, with the row that ticket 5 of document 02 adds. Wild
 links are those of ticket 1, a Z80 that is held is that of ticket 2, the watchdog that of ticket 3,
-the whole screen that of ticket 5, why a cell shows what it shows is ticket 6, and the viewers are
-those of ticket 7.
+the whole screen that of ticket 5, why a cell shows what it shows is ticket 6, the viewers are those
+of ticket 7, and the index is that of ticket 8.
 """
 import copy
 import ctypes
@@ -122,6 +122,14 @@ class Case(unittest.TestCase):
         """The places of the computer that changed, with what they hold now."""
         after = bytes(self.computer)
         return {at: after[at] for at in range(len(after)) if after[at] != before[at]}
+
+    def fresh_index(self):
+        """The index as it is worked out into another buffer."""
+        computer, index = self.computer, (ctypes.c_uint8 * rainbow.INDEX_BYTES)()
+        refusal = rainbow.library.rainbow_index_readers(
+            computer.machine, computer.screen, 4096, computer.attribute, 4096, index, len(index))
+        self.assertEqual(refusal, 0)
+        return bytes(index)
 
     def chain(self, kind, end):
         """Row 1 starts at 100 hex, is of this kind and has its FF so many bytes further on."""
@@ -968,6 +976,140 @@ class Watching(Case):
         self.assertEqual(self.asked(), [0] * 8)
 
 
+class Index(Case):
+    """The first row that reads each place of screen, and then of attribute memory."""
+
+    def setUp(self):
+        super().setUp()
+        # Rows 0 and 1 have two cells each; row 2 at 512 has none, and so have the others, which are
+        # row 2 again.
+        screen = bytearray(b"AB\xff\0\1".ljust(256) + b"CD\xff\0\2".ljust(256)
+                           + b"\xff\0\2".ljust(3584))
+        self.computer.load(screen, b"\3" * 4096)
+
+    def rows(self):
+        """The entries that name a row, by the row: places of screen memory, and of attribute
+        memory."""
+        computer, found = self.computer, {}
+        for place in range(4096):
+            for beside in (False, True):
+                row = computer.first_row(place, beside)
+                if row is not None:
+                    found.setdefault(row, ([], []))[beside].append(place)
+        return found
+
+    def store(self, address, byte):
+        """A store with the index as it is, for no viewer: the marks."""
+        c = self.computer
+        stored = rainbow.library.rainbow_store_with_index(
+            c.machine, c.shared, 65536, c.screen, 4096, c.attribute, 4096, c.picture,
+            len(c.picture), c.index, len(c.index), address, byte)
+        self.assertEqual(stored.refusal, 0)
+        return stored.marks
+
+    def test_three_rows(self):
+        self.assertEqual(self.rows(), {0: ([0, 1, 2, 3, 4], [0, 1, 3]),
+                                       1: ([256, 257, 258, 259, 260], [256, 257, 259]),
+                                       2: ([512, 513, 514], [513])})
+        self.assertEqual(set(self.computer.index), {0, 1, 2, rainbow.NO_ROW})
+
+    def test_torn(self):
+        self.computer.load(bytes(4096), bytes(4096))
+        self.assertEqual(self.rows(), {0: (list(range(81)), list(range(80)))})
+        self.computer.write_port(0x04, 0x10)
+        self.assertEqual(self.rows(), {0: (list(range(133)), list(range(132)))})
+
+    def test_row_24(self):
+        screen = bytearray(4096)
+        for row in range(26):
+            screen[8 * row:8 * row + 3] = 0xFF, 8 * row + 8, 0
+        self.computer.load(screen, b"\3" * 4096)
+        self.assertEqual(self.computer.first_row(8 * 24), 24)
+        self.assertEqual(self.computer.first_row(8 * 24 + 1, beside=True), 24)
+        self.assertIsNone(self.computer.first_row(8 * 25))
+
+    def test_a_link_moves_rows(self):
+        self.assertEqual(self.computer.store(SCREEN + 4, 3), 0x1FFFFFE)  # row 1 is torn at 768
+        self.assertEqual(self.rows(), {0: ([0, 1, 2, 3, 4], [0, 1, 3]),
+                                       1: (list(range(768, 849)), list(range(768, 848)))})
+        self.assertEqual(bytes(self.computer.index), self.fresh_index())
+        self.assertEqual(self.computer.store(SCREEN + 4, 1), 0x1FFFFFE)
+        self.assertEqual(self.computer.first_row(260), 1)
+
+    def test_f_is_taken_from_the_index(self):
+        picture = bytes(self.computer.picture)
+        self.computer.index[0] = 2
+        self.assertEqual(self.store(SCREEN, 0x5A), 0)  # row 0 reads it, and is not mended
+        self.assertEqual(bytes(self.computer.picture), picture)
+        self.assertEqual(self.computer.first_row(0), 0)
+        self.assertEqual(self.store(SCREEN, 0x5B), 1)
+
+    def test_over_24_is_no_row(self):
+        for entry in (25, 26, 254, 255):
+            self.computer.index[0], self.computer.index[99] = entry, 24
+            index, picture = bytes(self.computer.index), bytes(self.computer.picture)
+            self.assertEqual(self.store(SCREEN, entry), 0)
+            self.assertEqual(bytes(self.computer.index), index)
+            self.assertEqual(bytes(self.computer.picture), picture)
+            self.assertEqual(self.computer.screen[0], entry)
+        self.computer.index[0] = 24
+        self.store(SCREEN, 0x41)
+        self.assertEqual(bytes(self.computer.index), self.fresh_index())
+
+    def test_entries_under_f_stay(self):
+        wrong = {3: 0, 300: 4, 301: 5, 302: 24, 303: 25, 4096: 4, 4097: 9}
+        for entry, row in wrong.items():
+            self.computer.index[entry] = row
+        self.computer.index[256] = 5
+        self.store(SCREEN + 256, 0x5A)
+        fresh = bytearray(self.fresh_index())
+        fresh[300] = fresh[4096] = 4  # under 5; the others became those of the memories
+        self.assertEqual(bytes(self.computer.index), bytes(fresh))
+
+    def test_shared_memory_has_no_entry(self):
+        self.computer.index[:] = [0] * rainbow.INDEX_BYTES
+        before = bytes(self.computer)
+        self.assertEqual(self.computer.store(0xEE0, 0x5A), 0)
+        self.assertEqual(self.changes(before), {0xEE0: 0x5A})
+
+    def test_made_afresh(self):
+        for again in (self.computer.draw, self.computer.power_up,
+                      lambda: self.computer.write_port(0x04, 0x10),
+                      lambda: self.computer.load(bytes(4096), bytes(4096))):
+            self.computer.index[:] = [7] * rainbow.INDEX_BYTES
+            again()
+            self.assertEqual(bytes(self.computer.index), self.fresh_index())
+
+    def test_refused(self):
+        self.computer.index[:] = [1] * rainbow.INDEX_BYTES
+        self.refused(2, self.computer.store, 0xF0000, 0x30)
+        self.computer.machine.reset = True
+        self.refused(8, self.computer.store, SCREEN, 0x31)
+        self.refused(5, self.computer.first_row, 4096)
+        self.refused(5, self.computer.first_row, 2 ** 64 - 1, True)
+
+    def test_any_entry_of_a_first_row(self):
+        for entry in (24, 25, 254, 255):
+            self.computer.index[7] = entry
+            self.assertEqual(self.computer.first_row(7), 24 if entry == 24 else None)
+
+    def test_with_a_true_index(self):
+        """A store does what one without an index does."""
+        for place in (0, 2, 3, 4, 5, 256, 258, 259, 260, 513, 514, 600):
+            for memory, byte in ((SCREEN, 0x01), (SCREEN, 0xFF), (ATTRIBUTE, 0x02)):
+                self.setUp()
+                c = copy.copy(self.computer)
+                marks = self.computer.store(memory + place, byte)
+                stored = rainbow.library.rainbow_store_for_viewers(
+                    c.machine, c.viewers, c.shared, 65536, c.screen, 4096, c.attribute, 4096,
+                    c.picture, len(c.picture), memory + place, byte)
+                self.assertEqual(marks, stored.stored.marks)
+                for part in ("shared", "screen", "attribute", "picture"):
+                    self.assertEqual(bytes(getattr(c, part)), bytes(getattr(self.computer, part)))
+                self.assertEqual(list(stored.viewers.waiting), list(self.computer.viewers.waiting))
+                self.assertEqual(bytes(self.computer.index), self.fresh_index())
+
+
 class Calls(Case):
     """Each method beside the rule of its call."""
 
@@ -1141,6 +1283,7 @@ class Numbers(Case):
                 (computer.scan_line, [0, 1], [2 ** 64 - 1, 2 ** 64 - 1]),
                 (computer.why, [0, 0], [2 ** 64 - 1, 2 ** 64 - 1]),
                 (computer.ask, [0], [2 ** 64 - 1]),
+                (computer.first_row, [0], [2 ** 64 - 1]),
                 (computer.glyph, [0], [0xFF]),
                 (computer.row, [0], [2 ** 64 - 1]),
                 (computer.text, [0], [2 ** 64 - 1]),
@@ -1175,7 +1318,7 @@ class Headers(unittest.TestCase):
 
     def test_numbers(self):
         wanted = defines(self.calls)
-        self.assertGreaterEqual(len(wanted), 39)
+        self.assertGreaterEqual(len(wanted), 41)
         self.assertEqual({name: getattr(rainbow, name, None) for name in wanted}, wanted)
         pairs = (rainbow.RECORD_BYTES - rainbow.PAIRS_AT) // 2
         self.assertEqual(rainbow.PAIRS, pairs)
@@ -1205,7 +1348,7 @@ class Headers(unittest.TestCase):
 
     def test_functions(self):
         wanted = declarations(self.calls)
-        self.assertEqual(len(wanted), 28)
+        self.assertEqual(len(wanted), 31)
         self.assertEqual(list(rainbow.FUNCTIONS), list(wanted))
         for name, (answer, given) in wanted.items():
             function = getattr(rainbow.library, name)
@@ -1234,7 +1377,8 @@ class Lent(Case):
                "row": 0, "scan": 1, "column": 0}
     of_the_8088 = {"rainbow_write_port", "rainbow_read_8088", "rainbow_store_8088",
                    "rainbow_read_shadow", "rainbow_write_shadow", "rainbow_store_with_picture",
-                   "rainbow_store_for_viewers"}
+                   "rainbow_store_for_viewers", "rainbow_store_with_index",
+                   "rainbow_store_with_index_for_viewers"}
     waiting = 0, 2, 4, 8, 16, 32, 64, 2 ** 32 - 1  # a drawing changes each of these, a store most
 
     def arguments(self, given):
@@ -1296,7 +1440,7 @@ class Lent(Case):
             else:
                 self.assertEqual(self.in_reset(call, arguments), 0, name)
             self.assertEqual(self.refusal(call(*arguments)), 0, name)
-        self.assertEqual(functions, 15)
+        self.assertEqual(functions, 18)
 
     def latch_refused(self, name, call, arguments, lengths):
         """The latch is over 9: 9, but 1 where a length is wrong too."""
@@ -1479,6 +1623,7 @@ class Runs(Case):
                 self.assertEqual(read(place), byte)
             if number % 50 == 0:
                 self.assertEqual(bytes(self.computer.picture), self.drawn_afresh())
+            self.assertEqual(bytes(self.computer.index), self.fresh_index())
         self.assertEqual(bytes(self.computer.picture), self.drawn_afresh())
         # The run went everywhere that it should.
         for name, least in (("store", 6000), ("store_z80", 500), (7, 500), ("write_port", 500),

@@ -9,11 +9,13 @@
 #include <sys/mman.h>
 #include <unistd.h>
 
-enum { SHARED, PRIVATE, SCREEN, ATTRIBUTE, GLYPHS, NVM, SHADOW, PICTURE, FRESH, LINE, LIST, BUFFERS };
+enum {
+    SHARED, PRIVATE, SCREEN, ATTRIBUTE, GLYPHS, NVM, SHADOW, PICTURE, FRESH, LINE, LIST, INDEX, FRESH_INDEX, BUFFERS
+};
 static const size_t listed[BUFFERS] = {
     RAINBOW_SHARED_BYTES, RAINBOW_PRIVATE_BYTES, RAINBOW_SCREEN_BYTES,  RAINBOW_ATTRIBUTE_BYTES, RAINBOW_GLYPH_BYTES,
     RAINBOW_NVM_BYTES,    RAINBOW_SHADOW_BYTES,  RAINBOW_PICTURE_BYTES, RAINBOW_PICTURE_BYTES,   RAINBOW_LINE_BYTES,
-    RAINBOW_LIST_BYTES};
+    RAINBOW_LIST_BYTES,   RAINBOW_INDEX_BYTES,   RAINBOW_INDEX_BYTES};
 enum { AT_END, AT_START, ON_HEAP, WAYS };
 enum { MOST_READS = 3375 }; /* of a drawing, at 132 columns */
 
@@ -22,6 +24,7 @@ static uint8_t *fence; /* a page that may not be touched */
 static uint8_t *closed[BUFFERS]; /* buffers of which no byte may be touched */
 static size_t page;
 static unsigned long calls, named, z80_ran, z80_held, ran_8088, reset_8088, lists, cells, not_cells, told, untold;
+static unsigned long read_by_rows, unread;
 static rainbow_viewers viewers; /* what came back last */
 static uint8_t copies[RAINBOW_VIEWERS][RAINBOW_PICTURE_BYTES]; /* the picture as each viewer has it */
 static uint64_t seed = 0x9E3779B97F4A7C15u;
@@ -148,6 +151,17 @@ static uint8_t draw(rainbow_machine machine, uint8_t **b, int into)
     return drawn.refusal;
 }
 
+/* The index, of which each entry is a row or none. */
+static uint8_t work_out(rainbow_machine machine, uint8_t **b, int into)
+{
+    uint8_t refusal = rainbow_index_readers(machine, b[SCREEN], listed[SCREEN], b[ATTRIBUTE], listed[ATTRIBUTE],
+                                            b[into], listed[into]);
+    for (size_t entry = 0; entry < listed[into]; entry++)
+        if (b[into][entry] >= RAINBOW_ROWS && b[into][entry] != RAINBOW_NO_ROW)
+            fail("an entry of the index is no row");
+    return refusal;
+}
+
 /* A call of the Z80 is refused by 7 exactly while the Z80 is held. */
 static void z80_refused(rainbow_machine machine, uint8_t refusal)
 {
@@ -223,16 +237,47 @@ static void ask(uint8_t **b)
         fail("a viewer's copy differs from the picture");
 }
 
+/* An address of a byte that a row reads, if there is one. */
+static uint32_t address_in_a_row(uint8_t **b)
+{
+    size_t entry = below(RAINBOW_INDEX_BYTES);
+    for (size_t left = listed[INDEX]; left > 0 && b[INDEX][entry] == RAINBOW_NO_ROW; left--)
+        entry = (entry + 1) % listed[INDEX];
+    return 0xEE000 + (uint32_t)entry;
+}
+
+/* Picture and index are kept. A store without an index, which leaves the index behind, is made a second time with it:
+ * the entry is still that of the memories before, and so the index becomes true again. */
 static uint8_t store(rainbow_machine machine, uint8_t **b, uint8_t byte)
 {
-    rainbow_stored_for_viewers served = rainbow_store_for_viewers(
+    uint32_t at = below(8) == 0 ? address_in_a_row(b) : address();
+    size_t entry = (size_t)at - 0xEE000;
+    *(entry < listed[INDEX] && b[INDEX][entry] != RAINBOW_NO_ROW ? &read_by_rows : &unread) += 1;
+    if (below(4) == 0) {
+        rainbow_stored_for_viewers served = rainbow_store_for_viewers(
+            machine, viewers, b[SHARED], listed[SHARED], b[SCREEN], listed[SCREEN], b[ATTRIBUTE], listed[ATTRIBUTE],
+            b[PICTURE], listed[PICTURE], at, byte);
+        viewers = served.viewers;
+    }
+    rainbow_stored_for_viewers served = rainbow_store_with_index_for_viewers(
         machine, viewers, b[SHARED], listed[SHARED], b[SCREEN], listed[SCREEN], b[ATTRIBUTE], listed[ATTRIBUTE],
-        b[PICTURE], listed[PICTURE], address(), byte);
+        b[PICTURE], listed[PICTURE], b[INDEX], listed[INDEX], at, byte);
     viewers = served.viewers;
     return served.stored.refusal;
 }
 
-/* One call that keeps the picture true. */
+/* A picture and an index of any bytes: nothing but the buffers is touched. Both are made afresh after it. */
+static void untrue(rainbow_machine machine, uint8_t **b)
+{
+    for (size_t entry = 0; entry < listed[INDEX]; entry++)
+        b[INDEX][entry] = (uint8_t)below(below(2) == 0 ? 30 : 256);
+    for (int stores = 0; stores < 5; stores++)
+        refused_8088(machine, rainbow_store_with_index(machine, b[SHARED], listed[SHARED], b[SCREEN], listed[SCREEN],
+                                                       b[ATTRIBUTE], listed[ATTRIBUTE], b[PICTURE], listed[PICTURE],
+                                                       b[INDEX], listed[INDEX], address(), any()).refusal);
+}
+
+/* One call that keeps picture and index true. */
 static void call(rainbow_machine machine, uint8_t **b)
 {
     size_t place = below(300);
@@ -299,6 +344,25 @@ static void refused(rainbow_machine machine, uint8_t **b)
         fail("a wrong length is not refused by 1");
 }
 
+/* The same where an index is lent. */
+static void refused_with_index(rainbow_machine machine)
+{
+    uint8_t **n = closed;
+    size_t entries = listed[INDEX] - 1 + 2 * below(2), length = listed[PICTURE] - 1 + 2 * below(2);
+    machine.reset = below(2) == 0;
+    rainbow_stored stored = rainbow_store_with_index(
+        machine, n[SHARED], listed[SHARED], n[SCREEN], listed[SCREEN], n[ATTRIBUTE], listed[ATTRIBUTE], n[PICTURE],
+        listed[PICTURE], fence, entries, address(), any());
+    rainbow_stored_for_viewers served = rainbow_store_with_index_for_viewers(
+        machine, viewers, fence, 7, fence, 7, fence, 7, fence, length, n[INDEX], listed[INDEX], address(), any());
+    uint8_t one = rainbow_index_readers(machine, n[SCREEN], listed[SCREEN], n[ATTRIBUTE], listed[ATTRIBUTE], fence,
+                                        entries);
+    uint8_t other = rainbow_index_readers(machine, fence, 7, n[ATTRIBUTE], listed[ATTRIBUTE], n[INDEX], listed[INDEX]);
+    if (stored.refusal != 1 || stored.marks != 0 || served.stored.refusal != 1 || served.stored.marks != 0 ||
+        memcmp(&served.viewers, &viewers, sizeof viewers) != 0 || one != 1 || other != 1)
+        fail("a wrong length is not refused by 1 with an index");
+}
+
 /* Nor does a Z80 that is held touch memory. */
 static void held(rainbow_machine machine)
 {
@@ -339,6 +403,40 @@ static void stopped(rainbow_machine machine)
         fail("an 8088 in reset is not refused by 8");
 }
 
+static void stopped_with_index(rainbow_machine machine)
+{
+    uint8_t **n = closed;
+    machine.reset = true;
+    rainbow_stored stored = rainbow_store_with_index(
+        machine, n[SHARED], listed[SHARED], n[SCREEN], listed[SCREEN], n[ATTRIBUTE], listed[ATTRIBUTE], n[PICTURE],
+        listed[PICTURE], n[INDEX], listed[INDEX], address(), any());
+    rainbow_stored_for_viewers served = rainbow_store_with_index_for_viewers(
+        machine, viewers, n[SHARED], listed[SHARED], n[SCREEN], listed[SCREEN], n[ATTRIBUTE], listed[ATTRIBUTE],
+        n[PICTURE], listed[PICTURE], n[INDEX], listed[INDEX], address(), any());
+    if (stored.refusal != RAINBOW_REFUSED_IN_RESET || stored.marks != 0 ||
+        served.stored.refusal != RAINBOW_REFUSED_IN_RESET || memcmp(&served.viewers, &viewers, sizeof viewers) != 0)
+        fail("a store with an index is not refused by 8");
+}
+
+/* Nor, but for one entry, does a store with an index that names no row: of shared memory not even that. */
+static void unnamed(rainbow_machine machine, uint8_t **b)
+{
+    uint8_t **n = closed;
+    machine.reset = false;
+    uint32_t in_shared = below(0x10000), in_screen = below(0x1000);
+    rainbow_stored stored =
+        rainbow_store_with_index(machine, b[SHARED], listed[SHARED], n[SCREEN], listed[SCREEN], n[ATTRIBUTE],
+                                 listed[ATTRIBUTE], n[PICTURE], listed[PICTURE], n[INDEX], listed[INDEX], in_shared, 1);
+    if (stored.refusal != RAINBOW_ACCEPTED || stored.marks != 0 || b[SHARED][in_shared] != 1)
+        fail("a store into shared memory with an index");
+    b[INDEX][in_screen] = (uint8_t)(RAINBOW_ROWS + below(256 - RAINBOW_ROWS));
+    stored = rainbow_store_with_index(machine, n[SHARED], listed[SHARED], b[SCREEN], listed[SCREEN], n[ATTRIBUTE],
+                                      listed[ATTRIBUTE], n[PICTURE], listed[PICTURE], b[INDEX], listed[INDEX],
+                                      0xEE000 + in_screen, 1);
+    if (stored.refusal != RAINBOW_ACCEPTED || stored.marks != 0 || b[SCREEN][in_screen] != 1)
+        fail("a store with an index that names no row");
+}
+
 /* Nor does a whole screen with a latch over 9. */
 static void latched(rainbow_machine machine)
 {
@@ -371,16 +469,23 @@ int main(void)
         for (int turn = 0; turn < 10; turn++) {
             machine = tick(write_any_port(machine, b));
             draw(machine, b, PICTURE);
+            work_out(machine, b, INDEX);
             for (int i = 0; i < 50; i++)
                 call(machine, b);
             refused(machine, b);
+            refused_with_index(machine);
             held(machine);
             stopped(machine);
+            stopped_with_index(machine);
             latched(machine);
             off_the_screen(machine);
             if (draw(machine, b, FRESH) != 0 || memcmp(b[PICTURE], b[FRESH], listed[PICTURE]) != 0)
                 fail("the kept picture differs from a fresh one");
-            calls += 83;
+            if (work_out(machine, b, FRESH_INDEX) != 0 || memcmp(b[INDEX], b[FRESH_INDEX], listed[INDEX]) != 0)
+                fail("the kept index differs from a fresh one");
+            untrue(machine, b);
+            unnamed(machine, b);
+            calls += 98;
         }
     }
     for (int buffer = 0; buffer < BUFFERS; buffer++)
@@ -395,6 +500,8 @@ int main(void)
         fail("no whole screen was listed");
     if (cells == 0 || not_cells == 0)
         fail("no cell was explained, or nothing but cells");
+    if (read_by_rows < 1000 || unread < 1000)
+        fail("the index seldom named a row, or seldom none");
     if (told < 1000 || untold < 1000)
         fail("a viewer was seldom told of rows, or seldom of none");
     printf("%lu calls touched nothing outside of their buffers\n", calls);

@@ -1,6 +1,6 @@
-/* rainbow_computer.h: each function does what the call behind it does on the struct's own buffers, and the picture is
- * always the one that a drawing afresh gives, although nothing here draws it after a change of columns. The viewers are
- * told what a count of the marks by hand says. */
+/* rainbow_computer.h: each function does what the call behind it does on the struct's own buffers, and picture and
+ * index are always those that are made afresh, although nothing here makes them after a change of columns. The viewers
+ * are told what a count of the marks by hand says. */
 #include "rainbow_computer.h"
 #include <stdio.h>
 #include <stdlib.h>
@@ -12,7 +12,7 @@ enum { ALL_FIELDS = offsetof(rainbow_computer, machine) + sizeof(rainbow_machine
 
 static rainbow_computer c, twin; /* the twin is changed by the calls of rainbow.h alone */
 static uint32_t seed = 1, z80_ran, z80_held, ran_8088, reset_8088, listed, not_listed, explained, refused;
-static uint32_t asked, unmarked, no_viewer;
+static uint32_t asked, unmarked, no_viewer, by_index, unread;
 
 static uint32_t below(uint32_t n)
 {
@@ -58,6 +58,13 @@ static void wait_for(uint32_t marks)
         twin.viewers.waiting[viewer] |= marks;
 }
 
+/* The twin's index, which is worked out and never kept. */
+static void index_twin(void)
+{
+    expect(rainbow_index_readers(twin.machine, twin.screen, sizeof twin.screen, twin.attribute, sizeof twin.attribute,
+                                 twin.index, sizeof twin.index) == 0, "an index worked out");
+}
+
 /* The same on the twin, each buffer lent by hand. */
 static void port(uint16_t number, uint8_t code)
 {
@@ -72,12 +79,17 @@ static void port(uint16_t number, uint8_t code)
                  sizeof twin.picture);
     if (rainbow_columns(twin.machine) != columns)
         wait_for(ALL_ROWS);
+    index_twin();
+    expect(memcmp(c.index, twin.index, sizeof c.index) == 0, "the index after a port write");
     expect(stored.refusal == written.refusal, "the refusal of a port write");
     expect(stored.marks == marks_since(before), "the marks of a port write");
 }
 
+/* A store that goes by the index does what one without an index does. */
 static void store(uint32_t address, uint8_t byte)
 {
+    size_t entry = (size_t)address - 0xEE000;
+    *(entry < sizeof c.index && c.index[entry] != RAINBOW_NO_ROW ? &by_index : &unread) += 1;
     rainbow_stored stored = rainbow_computer_store(&c, address, byte);
     rainbow_stored wanted = rainbow_store_with_picture(
         twin.machine, twin.shared, sizeof twin.shared, twin.screen, sizeof twin.screen, twin.attribute,
@@ -172,10 +184,12 @@ static void one_call(void)
 /* Every byte of the two is the same, and drawing afresh changes none. */
 static void compare(void)
 {
+    index_twin();
+    expect(memcmp(c.index, twin.index, sizeof c.index) == 0, "the kept index");
     expect(memcmp(&c, &twin, ALL_FIELDS) == 0, "the memories, the picture or the machine");
     rainbow_drawn drawn = rainbow_computer_draw(&c);
     wait_for(ALL_ROWS);
-    expect(memcmp(&c, &twin, ALL_FIELDS) == 0, "the kept picture");
+    expect(memcmp(&c, &twin, ALL_FIELDS) == 0, "the kept picture, or the kept index");
     rainbow_drawn wanted = rainbow_draw(twin.machine, twin.screen, sizeof twin.screen, twin.attribute,
                                         sizeof twin.attribute, twin.picture, sizeof twin.picture);
     expect(drawn.refusal == 0 && drawn.reads == wanted.reads, "the answer of a drawing");
@@ -310,6 +324,31 @@ static void viewers(void)
     expect(rainbow_computer_ask(&d, 7).marks == ALL_ROWS, "an ask after a drawing");
 }
 
+/* Two rows, the second of which is torn: entries of the index, and a link that moves the second row. */
+static void indexes(void)
+{
+    static rainbow_computer d;
+    const size_t beside = RAINBOW_SCREEN_BYTES; /* the entry of the attribute byte beside a place */
+    memcpy(d.screen, "AB\xFF\x00\x01", 5);
+    d.attribute[3] = 3;
+    rainbow_computer_power_up(&d);
+    expect(d.index[0] == 0 && d.index[4] == 0 && d.index[5] == RAINBOW_NO_ROW, "the entries of row 0");
+    expect(d.index[beside + 1] == 0 && d.index[beside + 2] == RAINBOW_NO_ROW && d.index[beside + 3] == 0 &&
+               d.index[beside + 4] == RAINBOW_NO_ROW, "the entries beside row 0");
+    expect(d.index[0x100] == 1 && d.index[0x150] == 1 && d.index[0x151] == RAINBOW_NO_ROW, "the entries of row 1");
+    expect(d.index[beside + 0x14F] == 1 && d.index[beside + 0x150] == RAINBOW_NO_ROW, "the entries beside row 1");
+    expect(rainbow_computer_store(&d, 0xEE004, 0x02).marks == 2, "a link that moves row 1");
+    expect(d.index[0x100] == RAINBOW_NO_ROW && d.index[0x200] == 1 && d.index[4] == 0, "the index after the link");
+    expect(rainbow_computer_store(&d, 0xEE100, 'C').marks == 0 && d.screen[0x100] == 'C', "a store that no row reads");
+    rainbow_computer_write_port(&d, 0x04, 0x10);
+    expect(d.index[0x284] == 1 && d.index[beside + 0x283] == 1 && d.index[0x285] == RAINBOW_NO_ROW,
+           "the index at 132 columns");
+    d.index[0x200] = RAINBOW_NO_ROW; /* by hand: the store goes by it */
+    expect(rainbow_computer_store(&d, 0xEE200, 'D').marks == 0, "a store by an untrue index");
+    rainbow_computer_draw(&d);
+    expect(d.index[0x200] == 1 && d.picture[RAINBOW_RECORD_BYTES + RAINBOW_PAIRS_AT] == 'D', "both drawn afresh");
+}
+
 /* A Z80 that is held touches no memory. */
 static void z80(void)
 {
@@ -401,10 +440,12 @@ int main(void)
     expect(explained > 1000 && refused > 1000, "a cell was seldom explained, or seldom not");
     expect(asked > 1000 && unmarked > 1000, "a viewer was seldom told of rows, or seldom of none");
     expect(no_viewer > 1000, "a viewer was seldom refused");
+    expect(by_index > 1000 && unread > 1000, "the index seldom named a row, or seldom none");
     rows();
     cells();
     lists();
     viewers();
+    indexes();
     z80();
     watchdog();
     for (int refusal = 0; refusal <= RAINBOW_REFUSED_VIEWER + 1; refusal++)

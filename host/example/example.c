@@ -1,13 +1,13 @@
 /* Lays two rows of text on the Rainbow's screen, draws them, changes a letter, prints a scan of the dots, says why
- * cells show what they show, serves two viewers, scrolls the rows below smoothly, leaves rubbish in a link, lets the
- * Z80 run, and leaves the watchdog alone until it resets the 8088. */
+ * cells show what they show, stores by an index, serves two viewers, scrolls the rows below smoothly, leaves rubbish in
+ * a link, lets the Z80 run, and leaves the watchdog alone until it resets the 8088. */
 #include "rainbow.h"
 #include <stdio.h>
 
 static uint8_t shared[RAINBOW_SHARED_BYTES], screen[RAINBOW_SCREEN_BYTES], attribute[RAINBOW_ATTRIBUTE_BYTES];
 static uint8_t nvm[RAINBOW_NVM_BYTES], shadow[RAINBOW_SHADOW_BYTES], glyphs[RAINBOW_GLYPH_BYTES];
 static uint8_t picture[RAINBOW_PICTURE_BYTES], line[RAINBOW_LINE_BYTES], private_memory[RAINBOW_PRIVATE_BYTES];
-static uint8_t list[RAINBOW_LIST_BYTES];
+static uint8_t list[RAINBOW_LIST_BYTES], readers[RAINBOW_INDEX_BYTES];
 
 static uint8_t store_byte(rainbow_machine machine, uint32_t address, uint8_t byte)
 {
@@ -98,6 +98,34 @@ static void print_why(rainbow_machine machine, size_t row, size_t column)
     putchar('\n');
 }
 
+/* What the index says of a byte of the screen memory. */
+static void print_reader(uint32_t place)
+{
+    if (readers[place] == RAINBOW_NO_ROW)
+        printf("no row reads %04X\n", (unsigned)place);
+    else
+        printf("row %d is the first that reads %04X\n", readers[place], (unsigned)place);
+}
+
+/* A store of a byte that no row reads leaves the picture; a store of a link moves rows, and with them the index. */
+static void print_index(rainbow_machine machine)
+{
+    static const struct {
+        uint32_t place;
+        uint8_t byte;
+    } stores[] = {{0x300, '*'}, {0x202, 0x03}, {0x202, 0x02}};
+    rainbow_index_readers(machine, screen, sizeof screen, attribute, sizeof attribute, readers, sizeof readers);
+    print_reader(0x10C);
+    for (size_t store = 0; store < sizeof stores / sizeof stores[0]; store++) {
+        print_reader(0x300);
+        uint32_t marks = rainbow_store_with_index(machine, shared, sizeof shared, screen, sizeof screen, attribute,
+                                                  sizeof attribute, picture, sizeof picture, readers, sizeof readers,
+                                                  0xEE000 + stores[store].place, stores[store].byte).marks;
+        printf("%02X at %04X: marks %08X\n", stores[store].byte, (unsigned)stores[store].place, (unsigned)marks);
+    }
+    print_reader(0x300);
+}
+
 /* What a viewer is handed. The viewers that come back are kept. */
 static void print_asked(rainbow_viewers *viewers, size_t viewer)
 {
@@ -182,6 +210,7 @@ int main(void)
     print_why(machine, 24, 80);
     print_why(machine, 1, RAINBOW_COLUMNS);
 
+    print_index(machine);
     print_viewers(machine);
     print_scrolled(machine);
 

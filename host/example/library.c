@@ -8,6 +8,7 @@ static uint8_t shared[RAINBOW_SHARED_BYTES], screen[RAINBOW_SCREEN_BYTES], attri
 static uint8_t private_memory[RAINBOW_PRIVATE_BYTES], glyphs[RAINBOW_GLYPH_BYTES];
 static uint8_t nvm[RAINBOW_NVM_BYTES], shadow[RAINBOW_SHADOW_BYTES];
 static uint8_t picture[RAINBOW_PICTURE_BYTES], line[RAINBOW_LINE_BYTES], list[RAINBOW_LIST_BYTES];
+static uint8_t index_bytes[RAINBOW_INDEX_BYTES];
 static int wrong = 0;
 
 static void expect(bool holds, const char *what)
@@ -24,11 +25,11 @@ typedef struct {
     size_t length;
 } buffer;
 
-enum { BUFFERS = 10 };
+enum { BUFFERS = 11 };
 static const buffer right[BUFFERS] = {
     {shared, sizeof shared}, {private_memory, sizeof private_memory}, {screen, sizeof screen},
     {attribute, sizeof attribute}, {glyphs, sizeof glyphs}, {nvm, sizeof nvm}, {shadow, sizeof shadow},
-    {picture, sizeof picture}, {line, sizeof line}, {list, sizeof list}};
+    {picture, sizeof picture}, {line, sizeof line}, {list, sizeof list}, {index_bytes, sizeof index_bytes}};
 
 /* The two calls that serve viewers, with the refusals that they have to have. */
 static void serve_all(rainbow_machine m, const buffer *s, const buffer *c, const buffer *a, const buffer *p,
@@ -47,6 +48,27 @@ static void serve_all(rainbow_machine m, const buffer *s, const buffer *c, const
         expect(stored.viewers.waiting[viewer] == stored.stored.marks, "the viewers of store_for_viewers");
 }
 
+/* The calls that are lent an index, with the refusals that they have to have. With an index worked out just before, the
+ * store marks row 0. */
+static void index_all(rainbow_machine m, const buffer *s, const buffer *c, const buffer *a, const buffer *p,
+                      const buffer *i, uint8_t afresh, uint8_t store)
+{
+    rainbow_viewers none = {{0}};
+    expect(rainbow_index_readers(m, c->bytes, c->length, a->bytes, a->length, i->bytes, i->length) == afresh,
+           "index_readers");
+    rainbow_stored stored =
+        rainbow_store_with_index(m, s->bytes, s->length, c->bytes, c->length, a->bytes, a->length, p->bytes, p->length,
+                                 i->bytes, i->length, 0xEE000, (uint8_t)(screen[0] ^ 1));
+    expect(stored.refusal == store && (stored.marks != 0) == (store == 0), "store_with_index");
+    rainbow_stored_for_viewers served = rainbow_store_with_index_for_viewers(
+        m, none, s->bytes, s->length, c->bytes, c->length, a->bytes, a->length, p->bytes, p->length, i->bytes,
+        i->length, 0xEE000, (uint8_t)(screen[0] ^ 1));
+    stored = served.stored;
+    expect(stored.refusal == store && (stored.marks != 0) == (store == 0), "store_with_index_for_viewers");
+    for (size_t viewer = 0; viewer < RAINBOW_VIEWERS; viewer++)
+        expect(served.viewers.waiting[viewer] == stored.marks, "the viewers of store_with_index_for_viewers");
+}
+
 /* Whether a call with these buffers is refused by 1, if it is lent buffer `other`, and accepted if not; or refused by
  * 7, if it is the Z80's and the Z80 is held, by 8, if it is the 8088's and the 8088 is in reset, by 9, if it is the
  * whole screen's and the latch is over 9, or by 5, if a cell of row 25 is asked for. */
@@ -56,7 +78,7 @@ static void call_all(const buffer *b, int other, bool reset)
     m.reset = reset;
     uint8_t otherwise = reset ? 8 : 0; /* of a call of the 8088 */
     const buffer *s = b, *z = b + 1, *c = b + 2, *a = b + 3, *g = b + 4, *n = b + 5, *h = b + 6, *p = b + 7, *l = b + 8,
-                 *w = b + 9;
+                 *w = b + 9, *i = b + 10;
     bool main_three = other == 0 || other == 2 || other == 3;
     uint8_t wanted = main_three ? 1 : otherwise;
     expect(rainbow_read_8088(m, s->bytes, s->length, c->bytes, c->length, a->bytes, a->length, 5).refusal == wanted,
@@ -90,6 +112,7 @@ static void call_all(const buffer *b, int other, bool reset)
     expect(rainbow_store_with_picture(m, s->bytes, s->length, c->bytes, c->length, a->bytes, a->length, p->bytes,
                                       p->length, 0xEE000, 1).refusal == wanted, "store_with_picture");
     serve_all(m, s, c, a, p, drawn.refusal, wanted);
+    index_all(m, s, c, a, p, i, main_two || other == 10, other == 10 ? 1 : wanted);
     expect(rainbow_glyph_part(g->bytes, g->length, 5).refusal == (other == 4), "glyph_part");
     expect(rainbow_scan_line(m, p->bytes, p->length, g->bytes, g->length, 5, 5, l->bytes, l->length) ==
                (other == 4 || other == 7 || other == 8), "scan_line");

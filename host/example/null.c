@@ -42,6 +42,13 @@ int main(void)
             rainbow_store_for_viewers(machine, viewers, NULL, 0, NULL, 0, NULL, 0, NULL, 0, 0xEE000, 1);
         stored = served.stored;
         expect(stored.refusal == 1 && stored.marks == 0 && unchanged(served.viewers), "store_for_viewers");
+        stored = rainbow_store_with_index(machine, NULL, 0, NULL, 0, NULL, 0, NULL, 0, NULL, 0, 0xEE000, 1);
+        expect(stored.refusal == 1 && stored.marks == 0, "store_with_index");
+        served = rainbow_store_with_index_for_viewers(machine, viewers, NULL, 0, NULL, 0, NULL, 0, NULL, 0, NULL, 0,
+                                                      0xEE000, 1);
+        stored = served.stored;
+        expect(stored.refusal == 1 && stored.marks == 0 && unchanged(served.viewers), "store_with_index_for_viewers");
+        expect(rainbow_index_readers(machine, NULL, 0, NULL, 0, NULL, 0) == 1, "index_readers");
         read = rainbow_read_shadow(machine, NULL, 0, 0);
         expect(read.refusal == 1 && read.byte == 0, "read_shadow");
         expect(rainbow_write_shadow(machine, NULL, 0, 0, 1) == 1, "write_shadow");

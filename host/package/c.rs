@@ -3,18 +3,27 @@
 // USES
 use core::slice;
 
+/// Says to the compiler that what calls it is rare, so that the way of the other calls is straight.
+#[cold]
+#[inline(never)]
+fn rare() {}
+
 /// The bytes that C lends. NULL is no bytes, whatever the length said, and so is a length that no buffer can have:
 /// every call refuses them by 1.
+#[inline(always)]
 unsafe fn lent<'a>(bytes: *const u8, length: usize) -> &'a [u8] {
     if bytes.is_null() || length > isize::MAX as usize {
+        rare();
         return &[];
     }
     unsafe { slice::from_raw_parts(bytes, length) }
 }
 
 /// The same, of bytes that may change.
+#[inline(always)]
 unsafe fn lent_mut<'a>(bytes: *mut u8, length: usize) -> &'a mut [u8] {
     if bytes.is_null() || length > isize::MAX as usize {
+        rare();
         return &mut [];
     }
     unsafe { slice::from_raw_parts_mut(bytes, length) }

@@ -38,8 +38,9 @@
 //! | [`shadow::read_shadow`], [`shadow::write_shadow`] | the NVM's shadow, by place, as the 8088 reads and writes it |
 //! | [`picture::draw`] | draws the picture afresh; how many bytes it read, and the first row whose link is wild |
 //! | [`mending::store_with_picture`], [`marks::is_marked`] | the 8088 stores, and the picture is mended; which rows changed |
+//! | [`index::index_readers`], [`index::store_with_index`] | works out, for each place, the first row that reads it; the same store, which takes the first row from that index and keeps it |
 //! | [`viewers::Viewers::start`], [`ask`](viewers::Viewers::ask) | eight viewers, for each of whom marks wait; a viewer is handed its own |
-//! | [`viewers::store_for_viewers`], [`viewers::draw_for_viewers`] | the same store, which adds its marks to those of all viewers; the same drawing, which sets all rows for all |
+//! | [`viewers::store_for_viewers`], [`viewers::store_with_index_for_viewers`], [`viewers::draw_for_viewers`] | the same stores, which add their marks to those of all viewers; the same drawing, which sets all rows for all |
 //! | [`glyphs::part`], [`glyphs::refusal`] | the sixteen bytes of a code in the glyph table |
 //! | [`scan_line::draw`], [`scan_line::dots_of_line`] | the dots of a scan line |
 //! | [`whole_screen::list_lines`] | the row and the scan of each of the 240 lines that show, as the scroll latch says |
@@ -47,9 +48,9 @@
 //! | [`listing::list_rows`] | the row lister's text, and what the drawing answers |
 //! | [`sentences::say`] | why a cell shows what it shows, in two sentences |
 //!
-//! While the 8088 is in reset its calls are refused by 8. Draw the picture afresh after each change of the column
-//! setting. [`chain`] and [`records`] have the constants of a picture; the other functions that are public are parts of
-//! these calls, and are as safe to call.
+//! While the 8088 is in reset its calls are refused by 8. Draw the picture, and work the index out, afresh after each
+//! change of the column setting. [`chain`] and [`records`] have the constants of a picture; the other functions that are
+//! public are parts of these calls, and are as safe to call.
 #![no_std]
 #![cfg_attr(not(rainbow_c), forbid(unsafe_code))]
 #![cfg_attr(rainbow_c, deny(unsafe_code))]

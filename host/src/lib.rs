@@ -9,6 +9,7 @@ pub mod docs;
 pub mod dots;
 pub mod hard;
 pub mod history;
+pub mod index;
 pub mod load;
 pub mod machine;
 pub mod memories;

@@ -38,12 +38,13 @@ use Rattle.cases.specs.Memories.{zeros, refusedBy, running, storedByZ80,
 use Rattle.cases.specs.Ports.{shadow, nvm, written, writtenAll, none, recalls}
 use Rattle.cases.specs.Watchdog.{ticked, watching, inReset, watch, told, readBy8088, readOfShadow, writtenToShadow, writtenToPort}
 use Rattle.cases.specs.Mends.{markedOf, markedFrom, marked, storedAt, mendedRow}
+use Rattle.cases.specs.Index.{entriesOf, renewedOf, namedBy}
 use Rattle.cases.specs.Viewers.{toldTo, askedBy, storedFor, drawnFor}
 use Rattle.cases.specs.Dots.{showing, rowOfKind, litDots, everyByte, ofCharacter, numbered, digits80, digits132, bits, litByBits, underDigits, printed}
 use Rattle.cases.specs.Scroll.{standing, scrolling, linesAt, ofKinds, kindsAt, refusedAt}
 use Rattle.cases.specs.Lister.{listedOf}
 use Rattle.cases.specs.Why.{looped, overTheEnd, at132, whyAt, besideLink, saidOf}
-use Rattle.cases.specs.Table.{screens, wildLinks, stores, held, writes, ticks, resets, mends, watched, dots, scrolls, whys, sentences, prints, table}
+use Rattle.cases.specs.Table.{screens, wildLinks, stores, held, writes, ticks, resets, mends, watched, indexes, dots, scrolls, whys, sentences, prints, table}
 use Rattle.cases.specs.Worked.{Worked}
 
 abbrev gives : List Case → List (List Said)
@@ -88,6 +89,10 @@ watched-out : gives watched ≡ says watched
 unfolding byteAt capacity firstFF terminator link rowFrom next rowAt reads readsTo screenRead attributeRead from cellPairs fillPairs recordOf inOrder recordIn lengthsPicture within lengths8088 seen8088 refusedAccess lengthsWithPicture among firstThat sameBytes bitSet marksTo drawnFrom memory zeros markedOf markedFrom marked toldTo askedBy storedFor drawnFor watched
 watched-out = refl
 
+indexed-out : gives indexes ≡ says indexes
+unfolding byteAt capacity firstFF terminator link rowFrom next rowAt screenRead attributeRead from among firstThat memory looped overTheEnd entriesOf renewedOf namedBy indexes
+indexed-out = refl
+
 shown-out : gives dots ≡ says dots
 unfolding capacity inOrder recordIn glyphByte scanAddresses scanAddress glyphScan shade glyphDots twice cellDots pairDots rowDots showsNothing lineOf lengthsLine onTube showing rowOfKind litDots everyByte ofCharacter numbered digits80 digits132 bits litByBits underDigits printed dots
 shown-out = refl
@@ -110,4 +115,4 @@ printed-out = refl
 
 pub worked : Worked
 unfolding table
-worked = simp map-append (rw (drawn, named-out, stored, held-out, written-out, ticked-out, reset-out, mended-out, watched-out, shown-out, scrolled-out, explained-out, said-out, printed-out))
+worked = simp map-append (rw (drawn, named-out, stored, held-out, written-out, ticked-out, reset-out, mended-out, watched-out, indexed-out, shown-out, scrolled-out, explained-out, said-out, printed-out))

@@ -5,6 +5,7 @@ pub mod Ports
 pub mod Watchdog
 pub mod Mends
 pub mod Viewers
+pub mod Index
 pub mod Dots
 pub mod Scroll
 pub mod Lister

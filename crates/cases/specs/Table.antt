@@ -9,6 +9,7 @@ use Rattle.machine.specs.Power.{powerUp, verticalTick}
 use Rattle.viewers.specs.Viewers.{start, added}
 use Rattle.glyphs.specs.Scans.{scanAddresses, scanAddress, glyphScan}
 use Rattle.ascii.specs.Ascii.{ascii}
+use Rattle.memories.specs.declared.view8088.Seen.the-variants.{Shared as OfShared, Screen as OfScreen, Attribute as OfAttribute}
 use Rattle.cases.specs.Said.{Case, Private, Shared, Screen, Attribute, Byte, Refused, Interlaced, Recalls, Watch, Row, Start, Count, Reads, Names, Marked, Line, Kind, Dots, Addresses, GlyphScan, Prints, Cell, Fill, Past, Dark, Link, IsRow0}
 use Rattle.cases.specs.Screens.{alike, drawnAll, startOfRow, countOfRow, memory, named, emptyRows}
 use Rattle.cases.specs.Memories.{running, storedByZ80, storedShort, readByZ80, storedBy8088}
@@ -18,6 +19,7 @@ use Rattle.cases.specs.Scroll.{standing, scrolling, linesAt, kindsAt, re
 use Rattle.cases.specs.Lister.{listedOf}
 use Rattle.cases.specs.Why.{looped, overTheEnd, at132, whyAt, besideLink, saidOf}
 use Rattle.cases.specs.Mends.{marked, mendedRow}
+use Rattle.cases.specs.Index.{entriesOf, renewedOf, namedBy}
 use Rattle.cases.specs.Viewers.{toldTo, askedBy, storedFor, drawnFor}
 use Rattle.cases.specs.Dots.{litDots, everyByte, numbered, digits80, digits132, litByBits, underDigits, printed}
 
@@ -225,6 +227,56 @@ watched =
     -- "10, a viewer over 7", which changes nothing
     ∷ record { gives = toldTo 8 start; says = Refused 10 ∷ [] }
     ∷ record { gives = toldTo 0 (askedBy 8 start); says = marked 0 24 }
+    ∷ []
+
+-- 02, ticket 8: "for each place of screen and then of attribute memory, the number of the first row that reads it, or
+-- 255"
+unfoldable pub indexes : List Case
+indexes =
+    -- AB from place 0 and C from place 6, which leads back to place 0: cells, FF and both bytes of the link; places 5 and
+    -- 10 are read by none
+    record {
+      gives =
+          entriesOf (memory looped) (replicate attributeBytes 3)
+          (OfScreen 0 ∷ OfScreen 2 ∷ OfScreen 4 ∷ OfScreen 5 ∷ OfScreen 6 ∷ OfScreen 9 ∷ OfScreen 10 ∷ []);
+      says = Byte 0 ∷ Byte 0 ∷ Byte 0 ∷ Byte 255 ∷ Byte 1 ∷ Byte 1 ∷ Byte 255 ∷ [];
+    }
+    -- beside cells and low link bytes, not beside FF and the high byte
+    ∷ record {
+      gives =
+          entriesOf (memory looped) (replicate attributeBytes 3)
+          (OfAttribute 1 ∷ OfAttribute 2 ∷ OfAttribute 3 ∷ OfAttribute 4 ∷ OfAttribute 6 ∷ OfAttribute 8 ∷ []);
+      says = Byte 0 ∷ Byte 255 ∷ Byte 0 ∷ Byte 255 ∷ Byte 1 ∷ Byte 1 ∷ [];
+    }
+    -- P2: the torn row's last byte, and what stands beside it
+    ∷ record {
+      gives =
+          entriesOf (memory []) (replicate attributeBytes 0)
+          (OfScreen 80 ∷ OfScreen 81 ∷ OfAttribute 79 ∷ OfAttribute 80 ∷ []);
+      says = Byte 0 ∷ Byte 255 ∷ Byte 0 ∷ Byte 255 ∷ [];
+    }
+    -- a row that goes on from place 4095 at place 0
+    ∷ record {
+      gives =
+          entriesOf overTheEnd (replicate attributeBytes 3)
+          (OfScreen 4095 ∷ OfScreen 0 ∷ OfAttribute 4095 ∷ OfAttribute 0 ∷ OfAttribute 1 ∷ []);
+      says = Byte 1 ∷ Byte 0 ∷ Byte 1 ∷ Byte 255 ∷ Byte 0 ∷ [];
+    }
+    -- "over 24 being no row"; shared memory has no entry
+    ∷ record {
+      gives =
+          namedBy (24 ∷ 25 ∷ 255 ∷ 0 ∷ [])
+          (OfScreen 0 ∷ OfScreen 1 ∷ OfScreen 2 ∷ OfScreen 3 ∷ OfShared 3 ∷ OfAttribute 3 ∷ []);
+      says = Byte 24 ∷ Byte 25 ∷ Byte 25 ∷ Byte 0 ∷ Byte 25 ∷ Byte 25 ∷ [];
+    }
+    -- "Entries under f stay, the others become those of the memory after the store": a true one, one that is not and
+    -- becomes so, one that becomes under f, and an untrue one that is under f and stays
+    ∷ record {
+      gives =
+          renewedOf (memory looped) (replicate attributeBytes 3) 1 (0 ∷ 1 ∷ 7 ∷ 255 ∷ 0 ∷ 0 ∷ 24 ∷ [])
+          (0 ∷ 1 ∷ 2 ∷ 3 ∷ 4 ∷ 5 ∷ 6 ∷ []);
+      says = Byte 0 ∷ Byte 0 ∷ Byte 0 ∷ Byte 0 ∷ Byte 0 ∷ Byte 0 ∷ Byte 1 ∷ [];
+    }
     ∷ []
 
 -- P10, P11, and 003, section 2.1.6.7
@@ -471,5 +523,5 @@ sentences =
     ∷ []
 
 unfoldable pub table : List Case
-table = screens ++ wildLinks ++ stores ++ held ++ writes ++ ticks ++ resets ++ mends ++ watched ++ dots ++ scrolls ++ whys ++ sentences
+table = screens ++ wildLinks ++ stores ++ held ++ writes ++ ticks ++ resets ++ mends ++ watched ++ indexes ++ dots ++ scrolls ++ whys ++ sentences
     ++ prints

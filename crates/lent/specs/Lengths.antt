@@ -1,5 +1,5 @@
 -- Document 01, "Lent memory": the list of buffers and their bytes. Document 02, ticket 5, has another length for the
--- picture, and a buffer more.
+-- picture, and a buffer more; ticket 8 has one more.
 use Prim.Native.Nat.{ℕ}
 
 abbrev pub sharedBytes : ℕ
@@ -33,3 +33,7 @@ lineBytes = 1188
 -- 02, ticket 5: "a lent list of 480 bytes"
 abbrev pub listBytes : ℕ
 listBytes = 480
+
+-- 02, ticket 8: "Keep in 8,192 bytes"
+abbrev pub indexBytes : ℕ
+indexBytes = 8192

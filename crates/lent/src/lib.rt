@@ -29,6 +29,8 @@ pub const LINE_BYTES: usize = 1188;
 
 pub const LIST_BYTES: usize = 480;
 
+pub const INDEX_BYTES: usize = 8192;
+
 // The refusal of a call that is accepted.
 pub const ACCEPTED: u8 = 0;
 // A lent buffer's length differs from the list.

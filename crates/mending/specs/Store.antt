@@ -38,16 +38,22 @@ refusalWithPicture m shared screen attribute picture address =
 abbrev pub refuseWithPicture : (refusal : ℕ) → (shared screen attribute picture : List ℕ) → StoredWithPicture
 refuseWithPicture refusal = storedWithPicture (record { refusal = refusal; marks = 0 })
 
--- "Let f be the first row that reads the stored byte, by the walk of memory before the store. The byte is stored."
-abbrev pub mendWithPicture :
-    Machine → (shared screen attribute picture : List ℕ) → (address byte : ℕ) → StoredWithPicture
-mendWithPicture m shared screen attribute picture address byte =
-    let f = firstReader (chainOf m screen attribute) (seen8088 address) in
+-- "The byte is stored. Records before f stay; records from f on become those of the walk after the store."
+abbrev pub mendFrom :
+    (f : ℕ) → Machine → (shared screen attribute picture : List ℕ) → (address byte : ℕ) → StoredWithPicture
+mendFrom f m shared screen attribute picture address byte =
     let left = storeSeen (seen8088 address) shared screen attribute byte in
     let new = mended (chainOf m (left .screen) (left .attribute)) f picture in
     storedWithPicture
     (record { refusal = accepted; marks = marksOf picture new })
     (left .shared) (left .screen) (left .attribute) new
+
+-- "Let f be the first row that reads the stored byte, by the walk of memory before the store."
+abbrev pub mendWithPicture :
+    Machine → (shared screen attribute picture : List ℕ) → (address byte : ℕ) → StoredWithPicture
+mendWithPicture m shared screen attribute picture address byte =
+    mendFrom (firstReader (chainOf m screen attribute) (seen8088 address)) m
+    shared screen attribute picture address byte
 
 abbrev pub storeWithPicture :
     Machine → (shared screen attribute picture : List ℕ) → (address byte : ℕ) → StoredWithPicture

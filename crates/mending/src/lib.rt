@@ -65,7 +65,7 @@ fn records_differ(kept: &[u8], drawn: &[u8]) -> bool
 
 // Puts a record that was drawn in the place of the one that was kept, and says whether they differed. Most records
 // come out as they were, and are not written.
-fn replace(kept: &mut [u8], drawn: &[u8]) -> bool
+pub fn replace(kept: &mut [u8], drawn: &[u8]) -> bool
     requires { ⌜ length (now kept) ≡ recordBytes ⌝ }
     requires { ⌜ length (now drawn) ≡ recordBytes ⌝ }
     ensures { λ r. ⌜ r ≡ not (sameBytes (now (kept .entry)) (now (drawn .entry))) ⌝ }
@@ -115,7 +115,7 @@ fn mend(columns: usize, screen: &[u8], attribute: &[u8], first: Reader, picture:
     marks
 }
 
-fn lengths_with_picture(shared: usize, screen: usize, attribute: usize, picture: usize) -> bool
+pub fn lengths_with_picture(shared: usize, screen: usize, attribute: usize, picture: usize) -> bool
     ensures { λ r. ⌜ r ≡ lengthsWithPicture shared screen attribute picture ⌝ }
 {
     memories::lengths_8088(shared, screen, attribute) && picture == lent::PICTURE_BYTES

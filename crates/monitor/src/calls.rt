@@ -63,11 +63,23 @@ fn call_8088(
     screen: &mut [u8],
     attribute: &mut [u8],
     picture: &mut [u8],
+    index: &mut [u8],
 ) -> Desk {
     let form = command.form;
     match form {
         forms::STORE => {
             return watching::store(desk, command, shared, screen, attribute, picture);
+        }
+        forms::INDEX_STORE => {
+            return watching::store_with_index(
+                desk,
+                command,
+                shared,
+                screen,
+                attribute,
+                picture,
+                index,
+            );
         }
         forms::BLIND => store_blind(desk.machine, command, shared, screen, attribute),
         _ => read(desk.machine, command, shared, screen, attribute),
@@ -83,6 +95,7 @@ pub fn by_8088(
     screen: &mut [u8],
     attribute: &mut [u8],
     picture: &mut [u8],
+    index: &mut [u8],
 ) -> Desk {
     let a = desk::cut(desk, desk::SHARED, shared);
     let b = desk::cut(desk, desk::SCREEN, screen);
@@ -94,6 +107,7 @@ pub fn by_8088(
         &mut screen[0..b],
         &mut attribute[0..c],
         picture,
+        index,
     )
 }
 
@@ -188,4 +202,20 @@ pub fn to_shadow(desk: Desk, command: Command, shadow: &mut [u8]) {
         forms::SHADOW_WRITE => write_shadow(machine, command, &mut shadow[0..a]),
         _ => read_shadow(machine, command, &shadow[0..a]),
     }
+}
+
+// Obeys a line that works the index out afresh.
+pub fn index(desk: Desk, screen: &[u8], attribute: &[u8], index: &mut [u8]) {
+    let a = desk::cut(desk, desk::SCREEN, screen);
+    let b = desk::cut(desk, desk::ATTRIBUTE, attribute);
+    let c = desk::cut(desk, desk::INDEX, index);
+    say::done(
+        b"indexed",
+        index::index_readers(
+            desk.machine,
+            &screen[0..a],
+            &attribute[0..b],
+            &mut index[0..c],
+        ),
+    );
 }

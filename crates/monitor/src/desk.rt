@@ -25,7 +25,9 @@ pub const LINE: usize = PICTURE + 1;
 
 pub const LINES: usize = LINE + 1;
 
-pub const MEMORIES: usize = LINES + 1;
+pub const INDEX: usize = LINES + 1;
+
+pub const MEMORIES: usize = INDEX + 1;
 
 // Each memory has one byte more than the list says, so that it can be lent too long.
 pub const SHARED_BYTES: usize = lent::SHARED_BYTES + 1;
@@ -47,6 +49,8 @@ pub const PICTURE_BYTES: usize = lent::PICTURE_BYTES + 1;
 pub const LINE_BYTES: usize = lent::LINE_BYTES + 1;
 
 pub const LINES_BYTES: usize = lent::LIST_BYTES + 1;
+
+pub const INDEX_BYTES: usize = lent::INDEX_BYTES + 1;
 
 pub struct Desk {
     pub machine: Machine,
@@ -71,6 +75,7 @@ pub fn power_up() -> Desk {
             lent::PICTURE_BYTES,
             lent::LINE_BYTES,
             lent::LIST_BYTES,
+            lent::INDEX_BYTES,
         ],
     }
 }

@@ -31,7 +31,11 @@ pub const SHADOW_READ: usize = SHADOW_WRITE + 1;
 
 pub const DRAW: usize = SHADOW_READ + 1;
 
-pub const ASK: usize = DRAW + 1;
+pub const INDEX: usize = DRAW + 1;
+
+pub const INDEX_STORE: usize = INDEX + 1;
+
+pub const ASK: usize = INDEX_STORE + 1;
 
 pub const MARKED: usize = ASK + 1;
 
@@ -93,6 +97,8 @@ const FORM_TEXTS: [u8; FORMS * commands::FORM_BYTES] = *b"store HHHHHHHH HH     
     shadow write DDDDD HH           \
     shadow read DDDDD               \
     draw                            \
+    index                           \
+    index store HHHHHHHH HH         \
     ask DDDDD                       \
     marked HHHHHHHH DDDDD           \
     why DDDDD DDDDD                 \
@@ -128,7 +134,8 @@ const NAMES: [u8; desk::MEMORIES * commands::NAME_BYTES] = *b"shared          \
     shadow          \
     picture         \
     line            \
-    lines           ";
+    lines           \
+    index           ";
 
 // The form that a line has, with its numbers. One that is too long has none.
 pub fn parse(text: &[u8]) -> Command {
@@ -153,7 +160,7 @@ pub fn help() {
     }
     say::line(
         b"H is a hexadecimal digit, D a decimal one, and fewer will do; NAME is one of shared private \
-          screen attribute glyphs nvm shadow picture line lines",
+          screen attribute glyphs nvm shadow picture line lines index",
     );
 }
 

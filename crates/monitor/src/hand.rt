@@ -76,6 +76,7 @@ pub fn named(
     picture: &mut [u8; desk::PICTURE_BYTES],
     line: &mut [u8; desk::LINE_BYTES],
     lines: &mut [u8; desk::LINES_BYTES],
+    index: &mut [u8; desk::INDEX_BYTES],
 ) -> Desk {
     let name = command.first;
     match name {
@@ -88,7 +89,8 @@ pub fn named(
         desk::SHADOW => to_memory(desk, command, shadow),
         desk::PICTURE => to_memory(desk, command, picture),
         desk::LINE => to_memory(desk, command, line),
-        _ => to_memory(desk, command, lines),
+        desk::LINES => to_memory(desk, command, lines),
+        _ => to_memory(desk, command, index),
     }
 }
 
@@ -104,6 +106,7 @@ pub fn sums(
     picture: &[u8; desk::PICTURE_BYTES],
     line: &[u8; desk::LINE_BYTES],
     lines: &[u8; desk::LINES_BYTES],
+    index: &[u8; desk::INDEX_BYTES],
 ) {
     strewn::sum(b"sums: shared ", shared);
     strewn::sum(b" private ", private);
@@ -115,6 +118,7 @@ pub fn sums(
     strewn::sum(b" picture ", picture);
     strewn::sum(b" line ", line);
     strewn::sum(b" lines ", lines);
+    strewn::sum(b" index ", index);
     say::text(b"\n");
 }
 

@@ -29,6 +29,7 @@ fn main() {
     let mut picture = [0; desk::PICTURE_BYTES];
     let mut line = [0; desk::LINE_BYTES];
     let mut lines = [0; desk::LINES_BYTES];
+    let mut index = [0; desk::INDEX_BYTES];
     let mut desk = desk::power_up();
     let mut source = input::first();
     let mut turns = u64::MAX;
@@ -52,6 +53,7 @@ fn main() {
             &mut picture,
             &mut line,
             &mut lines,
+            &mut index,
         );
         turns -= 1;
     }
@@ -72,18 +74,20 @@ fn turn(
     picture: &mut [u8; desk::PICTURE_BYTES],
     line: &mut [u8; desk::LINE_BYTES],
     lines: &mut [u8; desk::LINES_BYTES],
+    index: &mut [u8; desk::INDEX_BYTES],
 ) -> Desk {
     let text = input::line(source, text);
     let command = forms::parse(text);
     let form = command.form;
     match form {
-        forms::STORE..=forms::READ => {
-            return calls::by_8088(desk, command, shared, screen, attribute, picture);
+        forms::STORE..=forms::READ | forms::INDEX_STORE => {
+            return calls::by_8088(desk, command, shared, screen, attribute, picture, index);
         }
         forms::Z80_STORE..=forms::Z80_READ => calls::by_z80(desk, command, private, shared),
         forms::PORT..=forms::WATCH => return calls::to_machine(desk, command, shadow, nvm),
         forms::SHADOW_WRITE..=forms::SHADOW_READ => calls::to_shadow(desk, command, shadow),
         forms::DRAW => return watching::draw(desk, screen, attribute, picture),
+        forms::INDEX => calls::index(desk, screen, attribute, index),
         forms::ASK => return watching::ask(desk, command.first),
         forms::MARKED..=forms::SCROLL => scans::show(
             desk,
@@ -106,6 +110,7 @@ fn turn(
             picture,
             line,
             lines,
+            index,
         ),
         forms::LEND..=forms::STREW => {
             return hand::named(
@@ -121,6 +126,7 @@ fn turn(
                 picture,
                 line,
                 lines,
+                index,
             );
         }
         _ => return hand::obey(desk, command, text, screen, attribute, picture),

@@ -1,4 +1,4 @@
-// The calls that serve viewers: the store and the drawing, which keep the picture and the viewers both, and the ask.
+// The calls that serve viewers: the stores and the drawing, which keep the picture and the viewers both, and the ask.
 use crate::calls;
 use crate::desk;
 use crate::desk::Desk;
@@ -55,6 +55,33 @@ pub fn store(
         screen,
         attribute,
         &mut picture[0..a],
+        calls::address(command.first),
+        calls::byte(command.second),
+    );
+    say_stored(served.stored);
+    desk::with_viewers(desk, served.viewers)
+}
+
+// The same with the index lent too.
+pub fn store_with_index(
+    desk: Desk,
+    command: Command,
+    shared: &mut [u8],
+    screen: &mut [u8],
+    attribute: &mut [u8],
+    picture: &mut [u8],
+    index: &mut [u8],
+) -> Desk {
+    let a = desk::cut(desk, desk::PICTURE, picture);
+    let b = desk::cut(desk, desk::INDEX, index);
+    let served = viewers::store_with_index_for_viewers(
+        desk.machine,
+        desk.viewers,
+        shared,
+        screen,
+        attribute,
+        &mut picture[0..a],
+        &mut index[0..b],
         calls::address(command.first),
         calls::byte(command.second),
     );

@@ -10,7 +10,7 @@ use machine::Machine;
 use machine::Written;
 
 // RAINBOW_VERSION of the header.
-const VERSION: u32 = 8;
+const VERSION: u32 = 9;
 
 // The version of the header that this archive was made for.
 #[no_mangle]

@@ -1,7 +1,8 @@
-// The viewers of one screen: their start, the drawing and the store that serve them, and the ask of one.
+// The viewers of one screen: their start, the drawing and the stores that serve them, and the ask of one.
 ghost use mathlib.Core.Path.{_≡_};
 ghost use Rattle.viewers.specs.Viewers.{start, ask};
 ghost use Rattle.viewers.specs.Serving.{drawnServing, drawForViewers, storedServing, storeForViewers};
+ghost use Rattle.viewers.specs.Serving.{storedServingIndex, storeWithIndexForViewers};
 use machine::Machine;
 use viewers::Asked;
 use viewers::DrawnForViewers;
@@ -63,6 +64,38 @@ pub extern "C" fn rainbow_store_for_viewers(
         screen,
         attribute,
         picture,
+        address,
+        byte,
+    )
+}
+
+// The same store with an index lent.
+#[no_mangle]
+pub extern "C" fn rainbow_store_with_index_for_viewers(
+    machine: Machine,
+    viewers: Viewers,
+    shared: &mut [u8],
+    screen: &mut [u8],
+    attribute: &mut [u8],
+    picture: &mut [u8],
+    index: &mut [u8],
+    address: u32,
+    byte: u8,
+) -> StoredForViewers
+    ensures { λ r. ⌜ storedServingIndex r
+        (now (shared .exit)) (now (screen .exit)) (now (attribute .exit)) (now (picture .exit)) (now (index .exit))
+        ≡ storeWithIndexForViewers machine viewers
+        (now (shared .entry)) (now (screen .entry)) (now (attribute .entry)) (now (picture .entry)) (now (index .entry))
+        address byte ⌝ }
+{
+    viewers::store_with_index_for_viewers(
+        machine,
+        viewers,
+        shared,
+        screen,
+        attribute,
+        picture,
+        index,
         address,
         byte,
     )

@@ -88,21 +88,27 @@ module _ (c : Chain) (seen : Seen) (byte : ℕ) (shared : List ℕ) where
   after = chainStored c seen byte shared
 
   -- which places a row reads is told by the row and the column setting alone
-  same-places : (row : Row) → rowReads after seen row ≡ rowReads c seen row
+  same-places : (one : Seen) (row : Row) → rowReads after one row ≡ rowReads c one row
   unfolding screenRead attributeRead
-  same-places (Whole head cells) = refl
-  same-places (Torn head) = refl
-  same-places Dark = refl
+  same-places one (Whole head cells) = refl
+  same-places one (Torn head) = refl
+  same-places one Dark = refl
 
-  -- so no row ahead of f reads the byte after the store
+  -- so a row ahead of f reads after the store what it read before
+  pub reads-alike :
+      (one : Seen) (row : ℕ) → row < firstReader c seen → rowReads after one (rowAt after row) ≡ rowReads c one (rowAt c row)
+  reads-alike one row ahead =
+      let unread = is-first c seen .1 .1 in
+      let same = rows-are-what-they-read c after (firstReader c seen)
+      (λ r h. unread-leaves c seen byte shared (rowAt c r) (unread r h)) .1 row ahead in
+      same-places one (rowAt after row) ∙ ap (rowReads c one) same
+
+  -- and no row ahead of f reads the byte after the store
   no-earlier : firstReader after seen < firstReader c seen → ⊥
   no-earlier less =
       let f = firstReader after seen in
-      let unread = is-first c seen .1 .1 in
-      let same = rows-are-what-they-read c after (firstReader c seen)
-      (λ row h. unread-leaves c seen byte shared (rowAt c row) (unread row h)) .1 f less in
       let reads = is-first after seen .1 .0 (omega (arith, is-first c seen .0)) in
-      true≢false (sym reads ∙ same-places (rowAt after f) ∙ ap (rowReads c seen) same ∙ unread f less)
+      true≢false (sym reads ∙ reads-alike seen f less ∙ is-first c seen .1 .1 f less)
 
 -- a store of the byte that stood there gives the chain back
 put-back :

@@ -9,7 +9,7 @@ use lib.ListN.{length}
 use lib.Dec.{eqb}
 use borrow.Author.Tests.{not-false}
 use Rattle.lent.specs.Lengths.{screenBytes, attributeBytes}
-use Rattle.lent.specs.Refusals.{accepted, refuses, placeRefused}
+use Rattle.lent.specs.Refusals.{refuses, placeRefused}
 use Rattle.lent.proofs.Order.{passed}
 use Rattle.memories.specs.View8088.{seen8088}
 use Rattle.memories.specs.declared.view8088.Seen.the-variants.{Screen as InScreen}
@@ -38,7 +38,7 @@ use Rattle.explaining.proofs.Shown.{holds-as, shows-what-it-says}
 use Rattle.explaining.proofs.Desk.{desk-promise}
 use Rattle.runs.specs.World.{Shared, Screen, Attribute, Picture, World, answer}
 use Rattle.runs.specs.Desk.{Asked, DeskSeesIt}
-use Rattle.runs.proofs.Worlds.{refusedWithPicture}
+use Rattle.runs.proofs.Worlds.{pictureRefusal}
 use Rattle.runs.proofs.Kept.{drawable-too}
 
 -- the 8088 sees a place of screen memory at its address
@@ -83,10 +83,10 @@ module _ (w : World) (row column place byte : ℕ) (a : Asked w row column place
   left = storeWithPicture (w .machine) (w .bytes Shared) (w .bytes Screen) (w .bytes Attribute) (w .bytes Picture) address byte
 
   -- the store is accepted, so the lengths are right and the picture is true
-  not-refused : refusedWithPicture address w ≡ false
-  not-refused = go (refusedWithPicture address w) refl
+  not-refused : refuses (pictureRefusal address w) ≡ false
+  not-refused = go (refuses (pictureRefusal address w)) refl
     where
-      go : (b : Bool) → refusedWithPicture address w ≡ b → b ≡ false
+      go : (b : Bool) → refuses (pictureRefusal address w) ≡ b → b ≡ false
       go true h =
           let outcome = refused-outcome (w .machine) (w .bytes Shared) (w .bytes Screen) (w .bytes Attribute) (w .bytes Picture) address byte h in
           sym h ∙ ap refuses (sym (ap (λ (l : StoredWithPicture). l .answer .refusal) outcome) ∙ a .accepts)

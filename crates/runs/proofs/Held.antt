@@ -7,18 +7,17 @@ use lib.ListN.{length}
 use borrow.Author.Tests.{not-true}
 use Rattle.lent.specs.Refusals.{refuses}
 use Rattle.machine.specs.Settings.{z80Runs}
-use Rattle.memories.specs.View8088.{seen8088}
+use Rattle.memories.specs.View8088.{seen8088, refusedAccess}
 use Rattle.memories.proofs.Laws.{accepted-right, store-refusal}
-use Rattle.mending.specs.Store.{StoredWithPicture, refusalWithPicture}
-use Rattle.runs.specs.World.{Memory, Shared, Private, Screen, Attribute, Picture, World, Call, Read8088, Store8088, ReadZ80, StoreZ80, ReadShadow, WriteShadow, WritePort, VerticalTick, WatchdogTick, Draw, StoreWithPicture, DrawForViewers, StoreForViewers, Ask, GlyphPart, DrawLine, ListLines, Explain, after, answer}
-use Rattle.runs.specs.Reach.{TheMachine, InReset, AllOf, has, hasMemory, Same, mayChange}
+use Rattle.runs.specs.World.{Memory, Shared, Private, Screen, Attribute, World, Call, Read8088, Store8088, ReadZ80, StoreZ80, ReadShadow, WriteShadow, WritePort, VerticalTick, WatchdogTick, Draw, StoreWithPicture, IndexReaders, StoreWithIndex, DrawForViewers, StoreForViewers, StoreWithIndexForViewers, Ask, GlyphPart, DrawLine, ListLines, Explain, after, answer}
+use Rattle.runs.specs.Reach.{InReset, AllOf, has, hasMemory, Same, mayChange}
 use Rattle.runs.specs.Z80.{onlyParts, onlyMemories, isZ80, CodeHas, SameLengths}
 use Rattle.runs.specs.Kept.{Lent, Own, Another, lentBytes, keptBytes, lending, Step, Made, Lending, stepped}
-use Rattle.runs.specs.Stopped.{TheZ80, is8088, isStopped, callOf, answerOf, steppedAll, stoppedAtItsCalls}
+use Rattle.runs.specs.Stopped.{TheZ80, isStopped, callOf, answerOf, steppedAll, stoppedAtItsCalls}
 use Rattle.runs.specs.Held.{storesShared, acceptedStores, outOfReset, HeldTouchesNothing, NoneLetsItRun, HeldUntilLetRun}
+use Rattle.runs.proofs.Worlds.{mends-refusal, picture-mends, index-mends}
 use Rattle.runs.proofs.Reach.{stored-apart, changes-only, lengths-stay}
-use Rattle.runs.proofs.Sees.{told}
-use Rattle.runs.proofs.Z80.{keeps-the-bit, stores-by-length, pictures-alike}
+use Rattle.runs.proofs.Z80.{keeps-the-bit, stores-by-length, pictures-by-length, indexes-by-length}
 use Rattle.runs.proofs.Stopped.{step-refused, step-stays, first-and-later, stopped-touches-nothing}
 
 -- a step leaves the lengths, and each memory that its call may not change
@@ -50,6 +49,8 @@ unfolding onlyParts onlyMemories has hasMemory
 aside (Store8088 a b) other = (stored-apart (seen8088 a) (AllOf Private) refl, λ h. h)
 aside (StoreWithPicture a b) other = (stored-apart (seen8088 a) (AllOf Private) refl, λ h. h)
 aside (StoreForViewers a b) other = (stored-apart (seen8088 a) (AllOf Private) refl, λ h. h)
+aside (StoreWithIndex a b) other = (stored-apart (seen8088 a) (AllOf Private) refl, λ h. h)
+aside (StoreWithIndexForViewers a b) other = (stored-apart (seen8088 a) (AllOf Private) refl, λ h. h)
 aside (ReadZ80 a) other = absurd (true≢false other)
 aside (StoreZ80 a b) other = absurd (true≢false other)
 aside (Read8088 a) other = (refl, λ _. refl)
@@ -60,14 +61,12 @@ aside VerticalTick other = (refl, λ _. refl)
 aside WatchdogTick other = (refl, λ _. refl)
 aside Draw other = (refl, λ _. refl)
 aside DrawForViewers other = (refl, λ _. refl)
+aside IndexReaders other = (refl, λ _. refl)
 aside (Ask n) other = (refl, λ _. refl)
 aside (GlyphPart k) other = (refl, λ _. refl)
 aside (DrawLine r s) other = (refl, λ _. refl)
 aside ListLines other = (refl, λ _. refl)
 aside (Explain r k) other = (refl, λ _. refl)
-
-abbrev with-picture : (a : ℕ) → World → ℕ
-with-picture a w = refusalWithPicture (w .machine) (w .bytes Shared) (w .bytes Screen) (w .bytes Attribute) (w .bytes Picture) a
 
 -- an accepted store of the 8088 is made out of reset; what it makes of shared memory goes by the lengths and by shared
 -- memory; and it leaves the machine
@@ -75,20 +74,26 @@ module _ (w v : World) (out : v .machine .reset ≡ false) (lengths : SameLength
   abbrev Alike : Call → Type 0
   Alike call = (after call w .bytes Shared ≡ after call v .bytes Shared) × (after call v .machine .reset ≡ false)
 
+  in-neither : (right : Bool) (a : ℕ) {refusal : ℕ} → refusal ≡ refusedAccess (w .machine) right a → refuses refusal ≡ false → Same InReset w v
+  in-neither right a e accepts = accepted-right (w .machine) right a (sym (ap refuses e) ∙ accepts) .1 ∙ sym out
+
   picture-alike : (a b : ℕ) → refuses (answer (StoreWithPicture a b) w .refusal) ≡ false → Alike (StoreWithPicture a b)
   picture-alike a b accepts =
-      let refusal = told (λ (left : StoredWithPicture). left .answer .refusal) (with-picture a w) _ _ refl refl in
-      let reset = accepted-right (w .machine) _ a (sym (ap refuses refusal) ∙ accepts) .1 in
-      (pictures-alike a b w v (reset ∙ sym out) lengths (AllOf Shared) same same, out)
+      (pictures-by-length a b w v (in-neither _ a (mends-refusal (picture-mends a b w)) accepts) lengths (AllOf Shared) same same, out)
+
+  index-alike : (a b : ℕ) → refuses (answer (StoreWithIndex a b) w .refusal) ≡ false → Alike (StoreWithIndex a b)
+  index-alike a b accepts =
+      (indexes-by-length a b w v (in-neither _ a (mends-refusal (index-mends a b w)) accepts) lengths (AllOf Shared) same same, out)
 
   store-alike : (call : Call) → storesShared call ≡ true → refuses (answer call w .refusal) ≡ false → Alike call
   unfolding has
   store-alike (Store8088 a b) is accepts =
       let refusal = store-refusal (w .machine) (w .bytes Shared) (w .bytes Screen) (w .bytes Attribute) a b in
-      let reset = accepted-right (w .machine) _ a (sym (ap refuses refusal) ∙ accepts) .1 in
-      (stores-by-length a b w v (reset ∙ sym out) lengths (AllOf Shared) same, out)
+      (stores-by-length a b w v (in-neither _ a refusal accepts) lengths (AllOf Shared) same, out)
   store-alike (StoreWithPicture a b) is accepts = picture-alike a b accepts
   store-alike (StoreForViewers a b) is accepts = picture-alike a b accepts
+  store-alike (StoreWithIndex a b) is accepts = index-alike a b accepts
+  store-alike (StoreWithIndexForViewers a b) is accepts = index-alike a b accepts
   store-alike (Read8088 a) is accepts = absurd (false≢true is)
   store-alike (ReadZ80 a) is accepts = absurd (false≢true is)
   store-alike (StoreZ80 a b) is accepts = absurd (false≢true is)
@@ -99,6 +104,7 @@ module _ (w v : World) (out : v .machine .reset ≡ false) (lengths : SameLength
   store-alike WatchdogTick is accepts = absurd (false≢true is)
   store-alike Draw is accepts = absurd (false≢true is)
   store-alike DrawForViewers is accepts = absurd (false≢true is)
+  store-alike IndexReaders is accepts = absurd (false≢true is)
   store-alike (Ask n) is accepts = absurd (false≢true is)
   store-alike (GlyphPart k) is accepts = absurd (false≢true is)
   store-alike (DrawLine r s) is accepts = absurd (false≢true is)

@@ -29,11 +29,16 @@ use Rattle.listing.proofs.list_rows.Reads as list-rows
 use Rattle.marks.proofs.is_marked.Reads as is-marked
 use Rattle.mending.specs.Store.{storedWithPicture}
 use Rattle.mending.proofs.store_with_picture.Reads as store-with-picture
-use Rattle.viewers.specs.Serving.{drawnServing, storedServing}
+use Rattle.index.specs.Index.{indexed}
+use Rattle.index.specs.Store.{storedWithIndex}
+use Rattle.index.proofs.index_readers.Reads as index-readers
+use Rattle.index.proofs.store_with_index.Reads as store-with-index
+use Rattle.viewers.specs.Serving.{drawnServing, storedServing, storedServingIndex}
 use Rattle.viewers.proofs.Viewers.start.Reads as start-viewers
 use Rattle.viewers.proofs.Viewers.ask.Reads as ask
 use Rattle.viewers.proofs.draw_for_viewers.Reads as draw-for-viewers
 use Rattle.viewers.proofs.store_for_viewers.Reads as store-for-viewers
+use Rattle.viewers.proofs.store_with_index_for_viewers.Reads as store-with-index-for-viewers
 use Rattle.glyphs.specs.Glyphs.{slice}
 use Rattle.glyphs.proofs.part.Reads as part
 use Rattle.glyphs.proofs.refusal.Reads as part-refusal
@@ -74,6 +79,9 @@ use Rattle.rainbow.proofs.watching.rainbow_start_viewers.Reads as c-start-viewe
 use Rattle.rainbow.proofs.watching.rainbow_ask.Reads as c-ask
 use Rattle.rainbow.proofs.watching.rainbow_draw_for_viewers.Reads as c-draw-for-viewers
 use Rattle.rainbow.proofs.watching.rainbow_store_for_viewers.Reads as c-store-for-viewers
+use Rattle.rainbow.proofs.watching.rainbow_store_with_index_for_viewers.Reads as c-store-with-index-for-viewers
+use Rattle.rainbow.proofs.indexing.rainbow_index_readers.Reads as c-index-readers
+use Rattle.rainbow.proofs.indexing.rainbow_store_with_index.Reads as c-store-with-index
 use Rattle.rainbow.proofs.dots.rainbow_glyph_part.Reads as c-glyph-part
 use Rattle.rainbow.proofs.dots.rainbow_scan_line.Reads as c-scan-line
 use Rattle.rainbow.proofs.dots.rainbow_dots_of_line.Reads as c-dots-of-line
@@ -137,6 +145,14 @@ pub store-with-picture-once :
     (λ κs r s. storedWithPicture r (now (s .1 .0)) (now (s .1 .1 .0)) (now (s .1 .1 .1 .0)) (now (s .1 .1 .1 .1 .0)))
 store-with-picture-once κs a one two = no-second
 
+pub index-readers-once : Once index-readers.Post (λ κs r s. indexed r (now (s .1 .1 .1 .0)))
+index-readers-once κs a one two = no-second
+
+pub store-with-index-once :
+    Once store-with-index.Post
+    (λ κs r s. storedWithIndex r (now (s .1 .0)) (now (s .1 .1 .0)) (now (s .1 .1 .1 .0)) (now (s .1 .1 .1 .1 .0)) (now (s .1 .1 .1 .1 .1 .0)))
+store-with-index-once κs a one two = no-second
+
 pub is-marked-once : AnswersOnce is-marked.Post
 is-marked-once κs a one two = no-second
 
@@ -153,6 +169,11 @@ pub store-for-viewers-once :
     Once store-for-viewers.Post
     (λ κs r s. storedServing r (now (s .1 .1 .0)) (now (s .1 .1 .1 .0)) (now (s .1 .1 .1 .1 .0)) (now (s .1 .1 .1 .1 .1 .0)))
 store-for-viewers-once κs a one two = no-second
+
+pub store-with-index-for-viewers-once :
+    Once store-with-index-for-viewers.Post
+    (λ κs r s. storedServingIndex r (now (s .1 .1 .0)) (now (s .1 .1 .1 .0)) (now (s .1 .1 .1 .1 .0)) (now (s .1 .1 .1 .1 .1 .0)) (now (s .1 .1 .1 .1 .1 .1 .0)))
+store-with-index-for-viewers-once κs a one two = no-second
 
 pub part-once : Once part.Post (λ κs r s. slice (r .ptr) (now r))
 part-once κs a one two = no-second
@@ -269,6 +290,19 @@ pub c-store-for-viewers-once :
     Once c-store-for-viewers.Post
     (λ κs r s. storedServing r (now (s .1 .1 .0)) (now (s .1 .1 .1 .0)) (now (s .1 .1 .1 .1 .0)) (now (s .1 .1 .1 .1 .1 .0)))
 c-store-for-viewers-once κs a one two = no-second
+
+pub c-store-with-index-for-viewers-once :
+    Once c-store-with-index-for-viewers.Post
+    (λ κs r s. storedServingIndex r (now (s .1 .1 .0)) (now (s .1 .1 .1 .0)) (now (s .1 .1 .1 .1 .0)) (now (s .1 .1 .1 .1 .1 .0)) (now (s .1 .1 .1 .1 .1 .1 .0)))
+c-store-with-index-for-viewers-once κs a one two = no-second
+
+pub c-index-readers-once : Once c-index-readers.Post (λ κs r s. indexed r (now (s .1 .1 .1 .0)))
+c-index-readers-once κs a one two = no-second
+
+pub c-store-with-index-once :
+    Once c-store-with-index.Post
+    (λ κs r s. storedWithIndex r (now (s .1 .0)) (now (s .1 .1 .0)) (now (s .1 .1 .1 .0)) (now (s .1 .1 .1 .1 .0)) (now (s .1 .1 .1 .1 .1 .0)))
+c-store-with-index-once κs a one two = no-second
 
 pub c-glyph-part-once : AnswersOnce c-glyph-part.Post
 c-glyph-part-once κs a one two = no-second

@@ -8,9 +8,9 @@ use lib.ListN.{length, set, take, drop, length-set}
 use lib.Seq.{take-set-le, drop-set-lt}
 use lib.Dec.{eqb, ltb}
 use borrow.Author.Tests.{ltb-true, ltb-false, eqb-false, ne-eqb}
-use Rattle.lent.specs.Lengths.{shadowBytes, nvmBytes, pictureBytes, lineBytes, listBytes}
+use Rattle.lent.specs.Lengths.{screenBytes, attributeBytes, shadowBytes, nvmBytes, pictureBytes, lineBytes, listBytes, indexBytes}
 use Rattle.lent.specs.Refusals.{accepted, refuses, lengthRefused, placeRefused, latchRefused}
-use Rattle.lent.proofs.Tests.{either, both-equal}
+use Rattle.lent.proofs.Tests.{either, both-equal, three-equal}
 use Rattle.lent.proofs.Order.{passed}
 use Rattle.machine.specs.Settings.{scrollLatch, z80Runs}
 use Rattle.machine.specs.Watchdog.{watchTicks, counts, watchdogTick}
@@ -26,21 +26,24 @@ use Rattle.ports.specs.Ports.{refusalPort, writePort}
 use Rattle.ports.proofs.Laws.{lent-nvm}
 use Rattle.chain.proofs.Searching.{neither}
 use Rattle.picture.specs.Picture.{recordIn}
-use Rattle.picture.specs.Draw.{lengthsPicture, chainOf, refusalDrawing, DrawnPicture}
+use Rattle.picture.specs.Draw.{chainOf, refusalDrawing, DrawnPicture}
 use Rattle.picture.proofs.Laws.{lentPicture, columns-fit}
 use Rattle.picture.proofs.Sizes.{picture-sized}
 use Rattle.mending.proofs.Laws.{mended-sized}
 use Rattle.mending.proofs.Outcome.{accepts}
+use Rattle.index.specs.Index.{lengthsIndex, IndexedReaders, refusalIndexing}
+use Rattle.index.proofs.Index.{entries-length}
+use Rattle.index.proofs.Outcome.{renewed-sized, accepts as accepts-index}
 use Rattle.viewers.specs.declared.Viewers.{Viewers}
 use Rattle.scan_line.specs.Call.{onTube, refusalLine, DrawnLine}
 use Rattle.scan_line.proofs.Laws.{lentLine}
 use Rattle.scan_line.proofs.Line.{line-sized}
 use Rattle.whole_screen.specs.Call.{lengthsList, latchMost, kindsIn, refusalList, Listed}
 use Rattle.whole_screen.proofs.Shown.{always-240}
-use Rattle.runs.specs.World.{Memory, Shared, Private, Screen, Attribute, Glyphs, Nvm, Shadow, Picture, Line, ScreenList, numberOf, isMemory, World, withMachine, withViewers, withBytes, Read8088, Store8088, ReadZ80, StoreZ80, ReadShadow, WriteShadow, WritePort, VerticalTick, WatchdogTick, Draw, StoreWithPicture, DrawForViewers, StoreForViewers, Ask, GlyphPart, DrawLine, ListLines, Explain, after}
+use Rattle.runs.specs.World.{Memory, Shared, Private, Screen, Attribute, Glyphs, Nvm, Shadow, Picture, Line, ScreenList, Index, numberOf, isMemory, World, withMachine, withViewers, withBytes, Call, Read8088, Store8088, ReadZ80, StoreZ80, ReadShadow, WriteShadow, WritePort, VerticalTick, WatchdogTick, Draw, StoreWithPicture, IndexReaders, StoreWithIndex, DrawForViewers, StoreForViewers, StoreWithIndexForViewers, Ask, GlyphPart, DrawLine, ListLines, Explain, after}
 use Rattle.runs.specs.Reach.{Part, TheMachine, Z80Bit, InReset, Below0800, From0800, TheViewers, AllOf, numberOfPart, has, Same, storedAt, ChangesOnly, LengthsStay}
 use Rattle.runs.proofs.Ports.{port-reset}
-use Rattle.runs.proofs.Worlds.{with-length, storedIn, stored-length, refused8088, store-refused, store-accepted, refusedZ80, z80-refused, z80-private, z80-shared, not-below, mendedIn, refusedWithPicture, picture-refused, picture-accepted}
+use Rattle.runs.proofs.Worlds.{with-length, storedIn, stored-length, Stores, plain-stores, refusedZ80, z80-refused, z80-private, z80-shared, not-below, chainAfter, mendedIn, renewedIn, readerIn, namedIn, pictureRefusal, picture-mends, drawnWithIndex, index-mends}
 
 pub same-refl : (part : Part) (w : World) → Same part w w
 same-refl TheMachine w = refl
@@ -66,7 +69,7 @@ same-trans TheViewers u w v p q = p ∙ q
 same-trans (AllOf memory) u w v p q = p ∙ q
 
 -- a part that is not in a list is not its first, and not in the rest
-apart :
+pub apart :
     (one : Part) (parts : List Part) (part : Part) → has (one ∷ parts) part ≡ false
     → (eqb (numberOfPart part) (numberOfPart one) ≡ false) × (has parts part ≡ false)
 unfolding has
@@ -79,7 +82,7 @@ other-memory memory one h =
     (λ e. eqb-false (6 + numberOf one) (6 + numberOf memory) h (ap (λ (n : ℕ). 6 + n) e))
 
 -- other bytes in a memory that is not shared memory leave every part but that memory
-with-leaves :
+pub with-leaves :
     (memory : Memory) (new : List ℕ) (w : World) → isMemory Shared memory ≡ false
     → (part : Part) → eqb (numberOfPart part) (numberOfPart (AllOf memory)) ≡ false → Same part (withBytes memory new w) w
 with-leaves memory new w other TheMachine h = refl
@@ -145,17 +148,24 @@ port-sized w port code =
           one-of (rises 6 (w .machine .held) code) (w .bytes Shadow) (w .bytes Nvm) (omega (arith, lent)),
         ))
 
--- a drawing, a line and a list that is accepted has room of the right length, and a list a latch of 0 to 9
+-- a call whose lengths are all that it can be refused by has them right where it is accepted
+pub by-lengths : (right : Bool) → refuses (cond (not right) lengthRefused accepted) ≡ false → right ≡ true
+by-lengths true h = refl
+by-lengths false h = absurd (true≢false h)
+
+-- a drawing, an index, a line and a list that is accepted has room of the right length, and a list a latch of 0 to 9
 pub accepted-picture :
     (w : World) → refuses (refusalDrawing (w .bytes Screen) (w .bytes Attribute) (w .bytes Picture)) ≡ false
     → length (w .bytes Picture) ≡ pictureBytes
-accepted-picture w = go (lengthsPicture (length (w .bytes Screen)) (length (w .bytes Attribute)) (length (w .bytes Picture))) refl
-  where
-    go :
-        (right : Bool) → lengthsPicture (length (w .bytes Screen)) (length (w .bytes Attribute)) (length (w .bytes Picture)) ≡ right
-        → refuses (cond (not right) lengthRefused accepted) ≡ false → length (w .bytes Picture) ≡ pictureBytes
-    go true e h = lentPicture e .1 .1
-    go false e h = absurd (true≢false h)
+accepted-picture w h = lentPicture (by-lengths _ h) .1 .1
+
+accepted-index :
+    (w : World) → refuses (refusalIndexing (w .bytes Screen) (w .bytes Attribute) (w .bytes Index)) ≡ false
+    → length (w .bytes Index) ≡ indexBytes
+unfolding lengthsIndex
+accepted-index w h =
+    three-equal (length (w .bytes Screen)) screenBytes (length (w .bytes Attribute)) attributeBytes (length (w .bytes Index)) indexBytes
+    (by-lengths _ h) .1 .1
 
 accepted-line :
     (w : World) (row scan : ℕ) → refuses (refusalLine (w .bytes Picture) (w .bytes Glyphs) row scan (w .bytes Line)) ≡ false
@@ -250,21 +260,32 @@ tick-runs m =
 drawing-leaves : (w : World) (part : Part) → has (AllOf Picture ∷ []) part ≡ false → Same part (after Draw w) w
 drawing-leaves w part h = with-leaves Picture _ w refl part (apart (AllOf Picture) [] part h .0)
 
+-- a store of the 8088 leaves what it does not store in, where what it draws leaves it
+stores-leave :
+    {call : Call} {a b : ℕ} {refused : Bool} {drawn w : World} → Stores call a b refused drawn w
+    → (part : Part) → has (storedAt (seen8088 a)) part ≡ false → Same part drawn w → Same part (after call w) w
+stores-leave {refused = true} {w = w} s part h same = same-by part _ w w w (s .stays refl) refl (same-refl part w)
+stores-leave {a = a} {b = b} {refused = false} {drawn = drawn} {w = w} s part h same =
+    let new = storedIn (seen8088 a) b drawn in
+    same-by part _ new w w (s .stored refl) refl (same-trans part new drawn w (stored-leaves (seen8088 a) b drawn part h) same)
+
 picture-leaves :
     (a b : ℕ) (w : World) (part : Part) → has (AllOf Picture ∷ storedAt (seen8088 a)) part ≡ false
     → Same part (after (StoreWithPicture a b) w) w
-picture-leaves a b w part h = go (refusedWithPicture a w) refl
-  where
-    drawn : World
-    drawn = withBytes Picture (mendedIn a b w) w
+picture-leaves a b w part h =
+    let aside = apart (AllOf Picture) (storedAt (seen8088 a)) part h in
+    stores-leave (picture-mends a b w .stores) part (aside .1) (with-leaves Picture _ w refl part (aside .0))
 
-    go : (r : Bool) → refusedWithPicture a w ≡ r → Same part (after (StoreWithPicture a b) w) w
-    go true e = same-by part _ w w w (picture-refused a b w e) refl (same-refl part w)
-    go false e =
-        let aside = apart (AllOf Picture) (storedAt (seen8088 a)) part h in
-        same-by part _ (storedIn (seen8088 a) b drawn) w w (picture-accepted a b w e) refl
-        (same-trans part (storedIn (seen8088 a) b drawn) drawn w (stored-leaves (seen8088 a) b drawn part (aside .1))
-        (with-leaves Picture _ w refl part (aside .0)))
+index-leaves :
+    (a b : ℕ) (w : World) (part : Part) → has (AllOf Picture ∷ AllOf Index ∷ storedAt (seen8088 a)) part ≡ false
+    → Same part (after (StoreWithIndex a b) w) w
+index-leaves a b w part h =
+    let aside = apart (AllOf Picture) (AllOf Index ∷ storedAt (seen8088 a)) part h in
+    let beside = apart (AllOf Index) (storedAt (seen8088 a)) part (aside .1) in
+    let renewed = withBytes Index (renewedIn (namedIn a w) a b w) w in
+    stores-leave (index-mends a b w .stores) part (beside .1)
+    (same-trans part (drawnWithIndex a b w) renewed w (with-leaves Picture _ renewed refl part (aside .0))
+    (with-leaves Index _ w refl part (beside .0)))
 
 serving-leaves :
     (v : Viewers) (u w : World) (parts : List Part) (part : Part) → (has parts part ≡ false → Same part u w)
@@ -275,11 +296,7 @@ serving-leaves v u w parts part leaves h =
 
 pub changes-only : ChangesOnly
 changes-only (Read8088 a) w part h = same-refl part w
-changes-only (Store8088 a b) w part h = go (refused8088 a w) refl
-  where
-    go : (r : Bool) → refused8088 a w ≡ r → Same part (after (Store8088 a b) w) w
-    go true e = same-by part _ w w w (store-refused a b w e) refl (same-refl part w)
-    go false e = same-by part _ _ w w (store-accepted a b w e) refl (stored-leaves (seen8088 a) b w part h)
+changes-only (Store8088 a b) w part h = stores-leave (plain-stores a b w) part h (same-refl part w)
 changes-only (ReadZ80 a) w part h = same-refl part w
 changes-only (StoreZ80 a b) w part h = go (refusedZ80 w) (isPrivate a) refl refl
   where
@@ -311,9 +328,13 @@ changes-only WatchdogTick w part h =
     machine-leaves _ w part (aside .0) (λ _. tick-runs (w .machine)) (λ is. absurd (true≢false (rw is at ticking .0)))
 changes-only Draw w part h = drawing-leaves w part h
 changes-only (StoreWithPicture a b) w part h = picture-leaves a b w part h
+changes-only IndexReaders w part h = with-leaves Index _ w refl part (apart (AllOf Index) [] part h .0)
+changes-only (StoreWithIndex a b) w part h = index-leaves a b w part h
 changes-only DrawForViewers w part h = serving-leaves _ (after Draw w) w (AllOf Picture ∷ []) part (drawing-leaves w part) h
 changes-only (StoreForViewers a b) w part h =
     serving-leaves _ (after (StoreWithPicture a b) w) w (AllOf Picture ∷ storedAt (seen8088 a)) part (picture-leaves a b w part) h
+changes-only (StoreWithIndexForViewers a b) w part h =
+    serving-leaves _ (after (StoreWithIndex a b) w) w (AllOf Picture ∷ AllOf Index ∷ storedAt (seen8088 a)) part (index-leaves a b w part) h
 changes-only (Ask n) w part h = viewers-leave _ w part (apart TheViewers [] part h .0)
 changes-only (GlyphPart k) w part h = same-refl part w
 changes-only (DrawLine r s) w part h = with-leaves Line _ w refl part (apart (AllOf Line) [] part h .0)
@@ -329,24 +350,37 @@ drawing-lengths w one =
     ∙ sym (accepted-picture w e)))
     one
 
+-- a store of the 8088 leaves the lengths, where what it draws leaves them
+stores-lengths :
+    {call : Call} {a b : ℕ} {refused : Bool} {drawn w : World} → Stores call a b refused drawn w → (one : Memory)
+    → (refused ≡ false → length (drawn .bytes one) ≡ length (w .bytes one)) → length (after call w .bytes one) ≡ length (w .bytes one)
+stores-lengths {refused = true} s one same = ap (λ (u : World). length (u .bytes one)) (s .stays refl)
+stores-lengths {a = a} {b = b} {refused = false} {drawn = drawn} s one same =
+    ap (λ (u : World). length (u .bytes one)) (s .stored refl) ∙ stored-length (seen8088 a) b drawn one ∙ same refl
+
+-- a mended picture is as long as it was
+mended-length :
+    (f a b : ℕ) (w : World) → refuses (pictureRefusal a w) ≡ false → length (mendedIn f a b w) ≡ length (w .bytes Picture)
+mended-length f a b w e =
+    let long = accepts (w .machine) (w .bytes Shared) (w .bytes Screen) (w .bytes Attribute) (w .bytes Picture) a b e .0 in
+    mended-sized (chainAfter a b w) f (w .bytes Picture) (columns-fit (w .machine)) long ∙ sym long
+
 picture-lengths : (a b : ℕ) (w : World) (one : Memory) → length (after (StoreWithPicture a b) w .bytes one) ≡ length (w .bytes one)
-picture-lengths a b w one = go (refusedWithPicture a w) refl
-  where
-    go : (r : Bool) → refusedWithPicture a w ≡ r → length (after (StoreWithPicture a b) w .bytes one) ≡ length (w .bytes one)
-    go true e = ap (λ (u : World). length (u .bytes one)) (picture-refused a b w e)
-    go false e =
-        let long = accepts (w .machine) (w .bytes Shared) (w .bytes Screen) (w .bytes Attribute) (w .bytes Picture) a b e .0 in
-        ap (λ (u : World). length (u .bytes one)) (picture-accepted a b w e)
-        ∙ stored-length (seen8088 a) b (withBytes Picture (mendedIn a b w) w) one
-        ∙ with-length Picture (mendedIn a b w) w (mended-sized _ _ (w .bytes Picture) (columns-fit (w .machine)) long ∙ sym long) one
+picture-lengths a b w one =
+    stores-lengths (picture-mends a b w .stores) one (λ e. with-length Picture _ w (mended-length (readerIn a w) a b w e) one)
+
+index-lengths : (a b : ℕ) (w : World) (one : Memory) → length (after (StoreWithIndex a b) w .bytes one) ≡ length (w .bytes one)
+index-lengths a b w one =
+    stores-lengths (index-mends a b w .stores) one (λ e.
+    let f = namedIn a w in
+    let both =
+    accepts-index (w .machine) (w .bytes Shared) (w .bytes Screen) (w .bytes Attribute) (w .bytes Picture) (w .bytes Index) a b e in
+    with-length Picture _ (withBytes Index (renewedIn f a b w) w) (mended-length f a b w (both .1)) one
+    ∙ with-length Index _ w (renewed-sized (chainAfter a b w) f (w .bytes Index) (both .0) ∙ sym (both .0)) one)
 
 pub lengths-stay : LengthsStay
 lengths-stay (Read8088 a) w one = refl
-lengths-stay (Store8088 a b) w one = go (refused8088 a w) refl
-  where
-    go : (r : Bool) → refused8088 a w ≡ r → length (after (Store8088 a b) w .bytes one) ≡ length (w .bytes one)
-    go true e = ap (λ (u : World). length (u .bytes one)) (store-refused a b w e)
-    go false e = ap (λ (u : World). length (u .bytes one)) (store-accepted a b w e) ∙ stored-length (seen8088 a) b w one
+lengths-stay (Store8088 a b) w one = stores-lengths (plain-stores a b w) one (λ _. refl)
 lengths-stay (ReadZ80 a) w one = refl
 lengths-stay (StoreZ80 a b) w one = go (refusedZ80 w) (isPrivate a) refl refl
   where
@@ -372,8 +406,16 @@ lengths-stay VerticalTick w one = refl
 lengths-stay WatchdogTick w one = refl
 lengths-stay Draw w one = drawing-lengths w one
 lengths-stay (StoreWithPicture a b) w one = picture-lengths a b w one
+lengths-stay IndexReaders w one =
+    with-length Index _ w
+    (either (λ (left : IndexedReaders). length (left .index) ≡ length (w .bytes Index))
+    (refuses (refusalIndexing (w .bytes Screen) (w .bytes Attribute) (w .bytes Index))) _ _ (λ _. refl)
+    (λ e. entries-length _ indexBytes ∙ sym (accepted-index w e)))
+    one
+lengths-stay (StoreWithIndex a b) w one = index-lengths a b w one
 lengths-stay DrawForViewers w one = drawing-lengths w one
 lengths-stay (StoreForViewers a b) w one = picture-lengths a b w one
+lengths-stay (StoreWithIndexForViewers a b) w one = index-lengths a b w one
 lengths-stay (Ask n) w one = refl
 lengths-stay (GlyphPart k) w one = refl
 lengths-stay (DrawLine r s) w one =

@@ -14,7 +14,7 @@ use Rattle.lent.proofs.Tests.{either}
 use Rattle.machine.specs.Written.{done}
 use Rattle.machine.specs.declared.Machine.{Machine}
 use Rattle.machine.specs.declared.Written.{Written}
-use Rattle.memories.specs.View8088.{seen8088, refusal8088, Stored8088}
+use Rattle.memories.specs.View8088.{seen8088, refusal8088}
 use Rattle.memories.specs.ViewZ80.{isPrivate, refusalZ80, StoredZ80}
 use Rattle.memories.proofs.Laws.{seen-accepted}
 use Rattle.shadow.specs.Shadow.{refusalShadow, WrittenShadow}
@@ -23,8 +23,8 @@ use Rattle.dc012.specs.Dc012.{writeDc012}
 use Rattle.diagnostic.specs.Diagnostic.{WrittenPort, writtenPort, writeDiagnostic, rises}
 use Rattle.ports.specs.Ports.{refusalPort, watched, writePort}
 use Rattle.picture.specs.Draw.{refusalDrawing, DrawnPicture, chainOf}
-use Rattle.mending.specs.Store.{StoredWithPicture, refusalWithPicture}
-use Rattle.viewers.specs.Viewers.{refusalAsk}
+use Rattle.index.specs.Index.{refusalIndexing, IndexedReaders}
+use Rattle.viewers.specs.Viewers.{added, refusalAsk}
 use Rattle.viewers.specs.declared.Asked.{Asked}
 use Rattle.viewers.proofs.Laws.{none-added}
 use Rattle.glyphs.specs.Glyphs.{glyphPart, partRefusal}
@@ -34,9 +34,9 @@ use Rattle.explaining.specs.Call.{refusalExplain}
 use Rattle.explaining.specs.Numbers.{told}
 use Rattle.explaining.specs.declared.Why.{Why}
 use Rattle.explaining.proofs.Laws.{why-accepted}
-use Rattle.runs.specs.World.{Shared, Private, Screen, Attribute, Glyphs, Nvm, Shadow, Picture, Line, ScreenList, World, withMachine, withViewers, withBytes, Call, readAnswer, drawnAnswer, explainedAnswer, Read8088, Store8088, ReadZ80, StoreZ80, ReadShadow, WriteShadow, WritePort, VerticalTick, WatchdogTick, Draw, StoreWithPicture, DrawForViewers, StoreForViewers, Ask, GlyphPart, DrawLine, ListLines, Explain, after, answer}
+use Rattle.runs.specs.World.{Memory, Shared, Private, Screen, Attribute, Glyphs, Nvm, Shadow, Picture, Line, ScreenList, Index, World, withMachine, withViewers, withBytes, Call, readAnswer, drawnAnswer, explainedAnswer, Read8088, Store8088, ReadZ80, StoreZ80, ReadShadow, WriteShadow, WritePort, VerticalTick, WatchdogTick, Draw, StoreWithPicture, IndexReaders, StoreWithIndex, DrawForViewers, StoreForViewers, StoreWithIndexForViewers, Ask, GlyphPart, DrawLine, ListLines, Explain, after, answer}
 use Rattle.runs.specs.Refused.{AllZero, ChangesNothing}
-use Rattle.runs.proofs.Worlds.{with-own, left8088, none-stored}
+use Rattle.runs.proofs.Worlds.{with-own, Stores, plain-stores, Mends, picture-mends, index-mends}
 
 -- an answer that is refused reads no byte
 abbrev Silent : ByteRead → Type 0
@@ -117,33 +117,40 @@ drawing-nothing w h =
         (left .answer .refusal ≡ accepted → ⊥)
         → (withBytes Picture (left .picture) w ≡ w) × AllZero (drawnAnswer (left .answer) .numbers)
 
-picture-nothing : (a b : ℕ) (w : World) → Nothing (StoreWithPicture a b) w
-picture-nothing a b w h =
-    either Kept (refuses (refusalWithPicture (w .machine) (w .bytes Shared) (w .bytes Screen) (w .bytes Attribute) (w .bytes Picture) a)) _ _
-    (λ _ g. (
-      none-stored _ _ _ 0 (withBytes Picture (w .bytes Picture) w) refl refl refl ∙ with-own Picture (w .bytes Picture) w refl,
-      (refl, tt),
-    ))
-    (λ _ g. absurd (g refl)) h
-  where
-    Kept : StoredWithPicture → Type 0
-    Kept left =
-        (left .answer .refusal ≡ accepted → ⊥)
-        → (withBytes Shared (left .shared)
-        (withBytes Screen (left .screen) (withBytes Attribute (left .attribute) (withBytes Picture (left .picture) w)))
-        ≡ w)
-        × AllZero (left .answer .marks ∷ [])
+-- a call that may change one memory
+one-nothing :
+    {O : Type 0} (number : O → ℕ) (bytes : O → List ℕ) (memory : Memory) (w : World) (refusal : ℕ) (x y : O)
+    → bytes x ≡ w .bytes memory → number y ≡ accepted → (number (cond (refuses refusal) x y) ≡ accepted → ⊥)
+    → (withBytes memory (bytes (cond (refuses refusal) x y)) w ≡ w) × AllZero []
+one-nothing number bytes memory w refusal x y same accepts h = (
+  either (λ o. (number o ≡ accepted → ⊥) → withBytes memory (bytes o) w ≡ w) (refuses refusal) x y
+      (λ _ g. with-own memory (bytes x) w same) (λ _ g. absurd (g accepts)) h,
+  tt,
+)
+
+-- a store of the 8088
+store-nothing :
+    {call : Call} {a b : ℕ} {refused : Bool} {drawn w : World} → Stores call a b refused drawn w
+    → (refused ≡ true → AllZero (answer call w .numbers)) → (refused ≡ false → answer call w .refusal ≡ accepted) → Nothing call w
+store-nothing {refused = true} s zeros accepts h = (s .stays refl, zeros refl)
+store-nothing {refused = false} s zeros accepts h = absurd (h (accepts refl))
+
+mends-nothing :
+    {call : Call} {a b refusal : ℕ} {new : List ℕ} {drawn w : World} → Mends call a b refusal new drawn w → Nothing call w
+mends-nothing m = store-nothing (m .stores) (λ e. rw (m .answers, e) (refl, tt)) (λ e. rw (m .answers, e))
+
+-- one that adds its marks to those of the viewers
+serving-nothing :
+    (marks : ℕ) (u w : World) → (u ≡ w) × AllZero (marks ∷ [])
+    → (withViewers (added (w .viewers) marks) u ≡ w) × AllZero (marks ∷ [])
+serving-nothing marks u w none = (rw (none .1 .0, none-added (w .viewers)) (ap (withViewers (w .viewers)) (none .0)), none .1)
 
 pub changes-nothing : ChangesNothing
 changes-nothing (Read8088 a) w h =
     (refl, silent (refusal8088 (w .machine) (w .bytes Shared) (w .bytes Screen) (w .bytes Attribute) a) _ h)
 changes-nothing (Store8088 a b) w h =
-    either Kept (refuses (refusal8088 (w .machine) (w .bytes Shared) (w .bytes Screen) (w .bytes Attribute) a)) _ _
-    (λ _ g. (none-stored _ _ _ 0 w refl refl refl, tt))
-    (λ _ g. absurd (g (seen-accepted (seen8088 a) (w .bytes Shared) (w .bytes Screen) (w .bytes Attribute) b))) h
-  where
-    Kept : Stored8088 → Type 0
-    Kept left = (left .refusal ≡ accepted → ⊥) → (left8088 left w ≡ w) × AllZero []
+    store-nothing (plain-stores a b w) (λ _. tt)
+    (λ e. rw e (seen-accepted (seen8088 a) (w .bytes Shared) (w .bytes Screen) (w .bytes Attribute) b)) h
 changes-nothing (ReadZ80 a) w h =
     (refl, silent (refusalZ80 (w .machine) (length (w .bytes Private)) (length (w .bytes Shared))) _ h)
 changes-nothing (StoreZ80 a b) w h =
@@ -160,22 +167,22 @@ changes-nothing (StoreZ80 a b) w h =
         → (withBytes Private (left .private) (withBytes Shared (left .shared) w) ≡ w) × AllZero []
 changes-nothing (ReadShadow p) w h = (refl, silent (refusalShadow (w .machine) (w .bytes Shadow) p) _ h)
 changes-nothing (WriteShadow p b) w h =
-    either Kept (refuses (refusalShadow (w .machine) (w .bytes Shadow) p)) _ _
-    (λ _ g. (with-own Shadow (w .bytes Shadow) w refl, tt)) (λ _ g. absurd (g refl)) h
-  where
-    Kept : WrittenShadow → Type 0
-    Kept left = (left .refusal ≡ accepted → ⊥) → (withBytes Shadow (left .shadow) w ≡ w) × AllZero []
+    one-nothing (λ (left : WrittenShadow). left .refusal) (λ (left : WrittenShadow). left .shadow) Shadow w
+    (refusalShadow (w .machine) (w .bytes Shadow) p) _ _ refl refl h
 changes-nothing (WritePort p k) w h = (port-kept w p k h, tt)
 changes-nothing VerticalTick w h = absurd (h refl)
 changes-nothing WatchdogTick w h = absurd (h refl)
 changes-nothing Draw w h = drawing-nothing w h
-changes-nothing (StoreWithPicture a b) w h = picture-nothing a b w h
+changes-nothing (StoreWithPicture a b) w h = mends-nothing (picture-mends a b w) h
+changes-nothing IndexReaders w h =
+    one-nothing (λ (left : IndexedReaders). left .refusal) (λ (left : IndexedReaders). left .index) Index w
+    (refusalIndexing (w .bytes Screen) (w .bytes Attribute) (w .bytes Index)) _ _ refl refl h
+changes-nothing (StoreWithIndex a b) w h = mends-nothing (index-mends a b w) h
 changes-nothing DrawForViewers w h =
     let none = drawing-nothing w h in
     (rw (ne-eqb (answer Draw w .refusal) accepted h) (ap (withViewers (w .viewers)) (none .0)), none .1)
-changes-nothing (StoreForViewers a b) w h =
-    let none = picture-nothing a b w h in
-    (rw (none .1 .0, none-added (w .viewers)) (ap (withViewers (w .viewers)) (none .0)), none .1)
+changes-nothing (StoreForViewers a b) w h = serving-nothing _ _ w (mends-nothing (picture-mends a b w) h)
+changes-nothing (StoreWithIndexForViewers a b) w h = serving-nothing _ _ w (mends-nothing (index-mends a b w) h)
 changes-nothing (Ask n) w h =
     either Kept (refuses (refusalAsk n)) _ _ (λ _ g. (refl, (refl, tt))) (λ _ g. absurd (g refl)) h
   where
@@ -183,17 +190,11 @@ changes-nothing (Ask n) w h =
     Kept asked = (asked .refusal ≡ accepted → ⊥) → (withViewers (asked .viewers) w ≡ w) × AllZero (asked .marks ∷ [])
 changes-nothing (GlyphPart k) w h = (refl, no-bytes (glyphPart (w .bytes Glyphs) k) h)
 changes-nothing (DrawLine r s) w h =
-    either Kept (refuses (refusalLine (w .bytes Picture) (w .bytes Glyphs) r s (w .bytes Line))) _ _
-    (λ _ g. (with-own Line (w .bytes Line) w refl, tt)) (λ _ g. absurd (g refl)) h
-  where
-    Kept : DrawnLine → Type 0
-    Kept left = (left .refusal ≡ accepted → ⊥) → (withBytes Line (left .line) w ≡ w) × AllZero []
+    one-nothing (λ (left : DrawnLine). left .refusal) (λ (left : DrawnLine). left .line) Line w
+    (refusalLine (w .bytes Picture) (w .bytes Glyphs) r s (w .bytes Line)) _ _ refl refl h
 changes-nothing ListLines w h =
-    either Kept (refuses (refusalList (w .machine) (w .bytes Picture) (w .bytes ScreenList))) _ _
-    (λ _ g. (with-own ScreenList (w .bytes ScreenList) w refl, tt)) (λ _ g. absurd (g refl)) h
-  where
-    Kept : Listed → Type 0
-    Kept left = (left .refusal ≡ accepted → ⊥) → (withBytes ScreenList (left .list) w ≡ w) × AllZero []
+    one-nothing (λ (left : Listed). left .refusal) (λ (left : Listed). left .list) ScreenList w
+    (refusalList (w .machine) (w .bytes Picture) (w .bytes ScreenList)) _ _ refl refl h
 changes-nothing (Explain r k) w h = (
   refl,
   either Kept (refuses (refusalExplain (w .bytes Screen) (w .bytes Attribute) r k)) _ _

@@ -1,7 +1,7 @@
 -- A viewer that repaints what it is told has the kept picture: the statements of specs/Repainted.antt.
 use Prim.Native.Nat.{ℕ, _*_, _<_}
 use mathlib.Core.Path.{_≡_, refl, subst, sym, ap, _∙_}
-use mathlib.Core.List.{List, [], _∷_}
+use mathlib.Core.List.{List, [], _∷_, _++_}
 use mathlib.Core.Bool.{Bool, true, false, not, cond, _||_, true≢false, false≢true, and-eq-true-iff}
 use native.Mathlib.Omega.{arith}
 use lib.ListN.{length, getD, length-set, length-map, getD-replicate}
@@ -14,24 +14,22 @@ use Rattle.chain.specs.Chain.{rows}
 use Rattle.chain.proofs.Searching.{neither}
 use Rattle.records.specs.Record.{recordBytes}
 use Rattle.picture.specs.Picture.{recordIn}
-use Rattle.picture.specs.Draw.{refusalDrawing, DrawnPicture}
 use Rattle.picture.proofs.Records.{same-records, own-records}
 use Rattle.marks.specs.Marks.{bitSet, allMarked, joined}
 use Rattle.marks.proofs.Marks.{bit-by-bit, joined-bit-by-bit}
-use Rattle.mending.proofs.Changes.{marks-the-changed}
+use Rattle.mending.proofs.Changes.{exactly-the-changed}
 use Rattle.viewers.specs.Viewers.{viewers, start}
 use Rattle.viewers.proofs.Laws.{added-own}
-use Rattle.runs.specs.World.{Memory, Shared, Screen, Attribute, Picture, World, Call, Draw, StoreWithPicture, DrawForViewers, StoreForViewers, Ask, after, answer}
+use Rattle.runs.specs.World.{Memory, Picture, World, Call, Draw, DrawForViewers, Ask, after, answer}
 use Rattle.runs.specs.Reach.{TheViewers, AllOf, has, mayChange}
-use Rattle.runs.specs.Kept.{Lent, Own, Another, lentBytes, keptBytes, lending, Step, Made, Lending, stepped, sameColumns, Serving, playedAll}
+use Rattle.runs.specs.Kept.{Lent, Own, Another, lentBytes, keptBytes, lending, Step, Made, Lending, stepped, Keeps, redrawn, sameColumns, playedAll}
 use Rattle.runs.specs.Stopped.{callOf, steppedAll}
-use Rattle.runs.specs.Repainted.{repainted, copied, copiedAll, serves, allServe, RepaintsRight, withRedraws, RepaintsFresh}
-use Rattle.runs.proofs.Reach.{changes-only, lengths-stay, accepted-picture}
-use Rattle.runs.proofs.Sees.{told}
-use Rattle.runs.proofs.Kept.{kept-from-drawing}
+use Rattle.runs.specs.Repainted.{repainted, copied, copiedAll, serves, allServe, RepaintsRight, serving, redraws, withRedraws, RepaintsFresh}
+use Rattle.runs.proofs.Reach.{changes-only, accepted-picture}
+use Rattle.runs.proofs.Kept.{redrawn-lengths, draw-told, kept-from-drawing}
 use Rattle.runs.proofs.Stopped.{step-refused}
 use Rattle.runs.proofs.Held.{step-lengths, step-leaves}
-use Rattle.runs.proofs.Viewers.{Quiet, by-call, ask-aside}
+use Rattle.runs.proofs.Viewers.{Quiet, Serves, by-call, ask-aside}
 
 module _ (viewer : ℕ) (within : viewer < viewers) where
   abbrev waiting : World → ℕ
@@ -99,10 +97,11 @@ module _ (viewer : ℕ) (within : viewer < viewers) where
             same = λ row under unset. absurd (true≢false (sym (all-wait row under) ∙ (rw e at unset)));
           }
 
-  store-goes : (a b : ℕ) → Goes (StoreForViewers a b)
-  store-goes a b lent w copy s t =
-      record {
-        long = step-lengths (Lending lent (StoreForViewers a b)) w Picture ∙ t .long;
+  store-goes : (serving plain : Call) → Serves serving plain → Goes serving
+  store-goes serving plain s lent w copy _ t =
+      rw (s .event [], s .leaves u)
+      (record {
+        long = step-lengths (Lending lent plain) w Picture ∙ t .long;
         eight = length-map (w .viewers .waiting) (λ (waits : ℕ). joined waits marks) ∙ t .eight;
         same =
             λ row under unset.
@@ -110,17 +109,16 @@ module _ (viewer : ℕ) (within : viewer < viewers) where
             neither (bitSet (waiting w) row) (bitSet marks row)
             (sym (joined-bit-by-bit (waiting w) marks row)
             ∙ (rw (added-own (w .viewers) marks viewer (omega (arith, t .eight))) at unset)) in
-            let changed =
-            marks-the-changed (u .machine) (u .bytes Shared) (u .bytes Screen) (u .bytes Attribute) (u .bytes Picture) a b row in
+            let changed = exactly-the-changed (u .bytes Picture) (after plain u .bytes Picture) (s .marks u) row in
             t .same row under (both .0)
-            ∙ sym (kept (lent Picture) (w .bytes Picture) (after (StoreWithPicture a b) u .bytes Picture) row (changed .1 .0 under (both .1)));
-      }
+            ∙ sym (kept (lent Picture) (w .bytes Picture) (after plain u .bytes Picture) row (changed .1 .0 under (both .1)));
+      })
     where
       u : World
       u = lending lent w
 
       marks : ℕ
-      marks = getD (answer (StoreWithPicture a b) u .numbers) 0 0
+      marks = getD (answer plain u .numbers) 0 0
 
       kept :
           (one : Lent) (own new : List ℕ) (row : ℕ) → recordIn new row ≡ recordIn (lentBytes one own) row
@@ -198,49 +196,74 @@ pub repaints-right : RepaintsRight
 repaints-right viewer steps w copy within begun long all =
     asked viewer within (λ _. Own) (run-goes viewer within steps w copy all (told-at-start viewer within w copy begun long))
 
--- the same run, with the redraws written out or made at once
-as-played : (steps : List Step) (w : World) → steppedAll (withRedraws steps w) w ≡ playedAll Serving steps w
-as-played [] w = refl
-as-played (step ∷ steps) w = go (sameColumns w (stepped step w)) (as-played steps (stepped step w)) (as-played steps (after DrawForViewers (stepped step w)))
-  where
-    new : World
-    new = stepped step w
+-- the redraws, one call after the other, leave what a redraw leaves, and they serve viewers
+after-redraws : (indexed : Bool) (steps : List Step) (w : World) → steppedAll (redraws indexed ++ steps) w ≡ steppedAll steps (redrawn (serving indexed) w)
+after-redraws true steps w = refl
+after-redraws false steps w = refl
 
-    go :
-        (b : Bool) → steppedAll (withRedraws steps new) new ≡ playedAll Serving steps new
-        → steppedAll (withRedraws steps (after DrawForViewers new)) (after DrawForViewers new) ≡ playedAll Serving steps (after DrawForViewers new)
-        → steppedAll (cond b (step ∷ withRedraws steps new) (step ∷ Made DrawForViewers ∷ withRedraws steps (after DrawForViewers new))) w
-        ≡ playedAll Serving steps (cond b new (after DrawForViewers new))
-    go true quiet redrawn = quiet
-    go false quiet redrawn = redrawn
-
-all-still-serve : (steps : List Step) (w : World) → allServe steps ≡ true → allServe (withRedraws steps w) ≡ true
+redraws-serve : (indexed : Bool) (steps : List Step) → allServe steps ≡ true → allServe (redraws indexed ++ steps) ≡ true
 unfolding has
-all-still-serve [] w all = refl
-all-still-serve (step ∷ steps) w all =
-    let both = and-eq-true-iff (serves (callOf step)) (allServe steps) .0 all in
-    go (both .0) (sameColumns w (stepped step w)) (all-still-serve steps (stepped step w) (both .1))
-    (all-still-serve steps (after DrawForViewers (stepped step w)) (both .1))
-  where
-    new : World
-    new = stepped step w
+redraws-serve true steps all = all
+redraws-serve false steps all = all
 
-    go :
-        serves (callOf step) ≡ true → (b : Bool) → allServe (withRedraws steps new) ≡ true
-        → allServe (withRedraws steps (after DrawForViewers new)) ≡ true
-        → allServe (cond b (step ∷ withRedraws steps new) (step ∷ Made DrawForViewers ∷ withRedraws steps (after DrawForViewers new))) ≡ true
-    go s true quiet redrawn = rw (s, quiet)
-    go s false quiet redrawn = rw (s, redrawn)
+module _ (indexed : Bool) where
+  abbrev keeps : Keeps
+  keeps = serving indexed
+
+  -- the same run, with the redraws written out or made at once
+  as-played : (steps : List Step) (w : World) → steppedAll (withRedraws indexed steps w) w ≡ playedAll keeps steps w
+  as-played [] w = refl
+  as-played (step ∷ steps) w =
+      go (sameColumns w new) (as-played steps new) (after-redraws indexed _ new ∙ as-played steps (redrawn keeps new))
+    where
+      new : World
+      new = stepped step w
+
+      noisy : List Step
+      noisy = redraws indexed ++ withRedraws indexed steps (redrawn keeps new)
+
+      go :
+          (b : Bool) → steppedAll (withRedraws indexed steps new) new ≡ playedAll keeps steps new
+          → steppedAll noisy new ≡ playedAll keeps steps (redrawn keeps new)
+          → steppedAll (cond b (step ∷ withRedraws indexed steps new) (step ∷ noisy)) w ≡ playedAll keeps steps (cond b new (redrawn keeps new))
+      go true one other = one
+      go false one other = other
+
+  all-still-serve : (steps : List Step) (w : World) → allServe steps ≡ true → allServe (withRedraws indexed steps w) ≡ true
+  all-still-serve [] w all = refl
+  all-still-serve (step ∷ steps) w all =
+      let both = and-eq-true-iff (serves (callOf step)) (allServe steps) .0 all in
+      go (both .0) (sameColumns w new) (all-still-serve steps new (both .1))
+      (redraws-serve indexed _ (all-still-serve steps (redrawn keeps new) (both .1)))
+    where
+      new : World
+      new = stepped step w
+
+      noisy : List Step
+      noisy = redraws indexed ++ withRedraws indexed steps (redrawn keeps new)
+
+      go :
+          serves (callOf step) ≡ true → (b : Bool) → allServe (withRedraws indexed steps new) ≡ true → allServe noisy ≡ true
+          → allServe (cond b (step ∷ withRedraws indexed steps new) (step ∷ noisy)) ≡ true
+      go s true one other = rw (s, one)
+      go s false one other = rw (s, other)
+
+  -- a working out of the index leaves the viewers
+  viewers-redrawn : (w : World) → redrawn keeps w .viewers ≡ after DrawForViewers w .viewers
+  viewers-redrawn w = go indexed
+    where
+      go : (b : Bool) → redrawn (serving b) w .viewers ≡ after DrawForViewers w .viewers
+      go true = refl
+      go false = refl
 
 pub repaints-fresh : RepaintsFresh
-repaints-fresh viewer steps w copy within accepts all serve =
-    let begun = after DrawForViewers w in
-    let run = withRedraws steps begun in
-    let started : begun .viewers ≡ start = rw accepts refl in
-    let refusal = told (λ (left : DrawnPicture). left .answer .refusal) (refusalDrawing (w .bytes Screen) (w .bytes Attribute) (w .bytes Picture)) _ _ refl refl in
-    let long = lengths-stay DrawForViewers w Picture ∙ accepted-picture w (ap refuses (sym refusal ∙ accepts)) in
-    let right = repaints-right viewer run begun copy within started long (all-still-serve steps begun serve) in
+repaints-fresh indexed viewer steps w copy within accepts all serve =
+    let begun = redrawn (serving indexed) w in
+    let run = withRedraws indexed steps begun in
+    let started : begun .viewers ≡ start = viewers-redrawn indexed w ∙ rw accepts refl in
+    let long = redrawn-lengths (serving indexed) w Picture ∙ accepted-picture w (ap refuses (sym (draw-told w) ∙ accepts)) in
+    let right = repaints-right viewer run begun copy within started long (all-still-serve indexed steps begun serve) in
     subst
     (λ (last : World). copied viewer (Made (Ask viewer)) last (copiedAll viewer run begun copy) ≡ last .bytes Picture)
-    (as-played steps begun) right
-    ∙ kept-from-drawing Serving steps w all accepts
+    (as-played indexed steps begun) right
+    ∙ kept-from-drawing (serving indexed) steps w all accepts

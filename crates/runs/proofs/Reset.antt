@@ -7,7 +7,7 @@ use lib.ListN.{length, drop}
 use Rattle.machine.specs.Settings.{z80Runs}
 use Rattle.machine.specs.declared.Machine.{Machine}
 use Rattle.memories.specs.ViewZ80.{sharedFrom}
-use Rattle.runs.specs.World.{Memory, Shared, Private, World, withMachine, Call, Read8088, Store8088, ReadZ80, StoreZ80, ReadShadow, WriteShadow, WritePort, VerticalTick, WatchdogTick, Draw, StoreWithPicture, DrawForViewers, StoreForViewers, Ask, GlyphPart, DrawLine, ListLines, Explain, Answer}
+use Rattle.runs.specs.World.{Memory, Shared, Private, World, withMachine, Call, Read8088, Store8088, ReadZ80, StoreZ80, ReadShadow, WriteShadow, WritePort, VerticalTick, WatchdogTick, Draw, StoreWithPicture, IndexReaders, StoreWithIndex, DrawForViewers, StoreForViewers, StoreWithIndexForViewers, Ask, GlyphPart, DrawLine, ListLines, Explain, Answer}
 use Rattle.runs.specs.Reach.{Z80Bit, has, hasMemory, Same}
 use Rattle.runs.specs.Z80.{onlyParts, onlyMemories, isZ80, Agree}
 use Rattle.runs.specs.Kept.{Lent, Own, Another, lentBytes, keptBytes, lending, keeping, Step, Made, Lending, stepped}
@@ -46,6 +46,8 @@ not-both (Read8088 a) is = refl
 not-both (Store8088 a b) is = refl
 not-both (StoreWithPicture a b) is = refl
 not-both (StoreForViewers a b) is = refl
+not-both (StoreWithIndex a b) is = refl
+not-both (StoreWithIndexForViewers a b) is = refl
 not-both (ReadShadow p) is = refl
 not-both (WriteShadow p b) is = refl
 not-both (WritePort p k) is = refl
@@ -55,6 +57,7 @@ not-both VerticalTick is = absurd (false≢true is)
 not-both WatchdogTick is = absurd (false≢true is)
 not-both Draw is = absurd (false≢true is)
 not-both DrawForViewers is = absurd (false≢true is)
+not-both IndexReaders is = absurd (false≢true is)
 not-both (Ask n) is = absurd (false≢true is)
 not-both (GlyphPart k) is = absurd (false≢true is)
 not-both (DrawLine r s) is = absurd (false≢true is)

@@ -1,6 +1,6 @@
 -- What each call sees: the statement of specs/Reach.antt that a call goes by nothing else.
-use Prim.Native.Nat.{ℕ, zero, suc, _+_, _-_, _≤_}
-use mathlib.Core.Path.{_≡_, refl, subst, sym, ap, _∙_}
+use Prim.Native.Nat.{ℕ, zero, suc, _+_, _-_}
+use mathlib.Core.Path.{_≡_, refl, subst, sym, ap, ap₂, _∙_}
 use mathlib.Core.List.{List, [], _∷_}
 use mathlib.Core.Bool.{Bool, true, false, cond}
 use native.Mathlib.Omega.{arith}
@@ -24,13 +24,14 @@ use Rattle.shadow.proofs.Laws.{place-by-reset}
 use Rattle.diagnostic.specs.Diagnostic.{WrittenPort}
 use Rattle.ports.specs.Ports.{writePort}
 use Rattle.picture.specs.Draw.{refusalDrawing, refuseDrawing, DrawnPicture, draw}
-use Rattle.mending.specs.Mending.{marksOf}
+use Rattle.index.specs.Index.{IndexedReaders, refusalIndexing, indexReaders}
+use Rattle.viewers.specs.Viewers.{added}
 use Rattle.viewers.specs.declared.Viewers.{Viewers}
 use Rattle.scan_line.specs.Call.{refusalLine, DrawnLine, drawLine}
 use Rattle.whole_screen.specs.Call.{refusalList, Listed, listLines}
-use Rattle.runs.specs.World.{Memory, Shared, Private, Screen, Attribute, Glyphs, Nvm, Shadow, Picture, Line, ScreenList, isMemory, World, withMachine, withViewers, withBytes, Answer, answered, drawnAnswer, Read8088, Store8088, ReadZ80, StoreZ80, ReadShadow, WriteShadow, WritePort, VerticalTick, WatchdogTick, Draw, StoreWithPicture, DrawForViewers, StoreForViewers, Ask, GlyphPart, DrawLine, ListLines, Explain, after, answer}
+use Rattle.runs.specs.World.{Memory, Shared, Private, Screen, Attribute, Glyphs, Nvm, Shadow, Picture, Line, ScreenList, Index, isMemory, World, withMachine, withViewers, withBytes, Call, Answer, answered, drawnAnswer, Read8088, Store8088, ReadZ80, StoreZ80, ReadShadow, WriteShadow, WritePort, VerticalTick, WatchdogTick, Draw, StoreWithPicture, IndexReaders, StoreWithIndex, DrawForViewers, StoreForViewers, StoreWithIndexForViewers, Ask, GlyphPart, DrawLine, ListLines, Explain, after, answer}
 use Rattle.runs.specs.Reach.{Part, TheMachine, Z80Bit, InReset, Below0800, From0800, TheViewers, AllOf, has, hasMemory, Same, Alike, SeesOnly}
-use Rattle.runs.proofs.Worlds.{is-memory, storedIn, refused8088, store-refused, store-accepted, refusedZ80, z80-refused, z80-private, z80-shared, not-below, mendedIn, refusedWithPicture, picture-refused, picture-accepted}
+use Rattle.runs.proofs.Worlds.{is-memory, storedIn, Stores, plain-stores, refusedZ80, z80-refused, z80-private, z80-shared, not-below, chainAfter, mendedIn, renewedIn, readerIn, namedIn, mendAnswer, Mends, picture-mends, index-mends}
 use Rattle.runs.proofs.Reach.{same-by}
 
 -- the first bytes after a store are those with the byte stored in them
@@ -81,7 +82,7 @@ module _ (memory : Memory) (x y : List ℕ) (w v : World) (new : Same (AllOf mem
       go true h = new (subst (λ (m : Memory). w .bytes m ≡ v .bytes m) (is-memory one memory h) s)
       go false h = s
 
-  with-alike :
+  pub with-alike :
       isMemory Shared memory ≡ false → (part : Part) → Same part w v → Same part (withBytes memory x w) (withBytes memory y v)
   with-alike other TheMachine s = s
   with-alike other Z80Bit s = s
@@ -122,19 +123,27 @@ pub refused-alike :
     ≡ refusal8088 (v .machine) (v .bytes Shared) (v .bytes Screen) (v .bytes Attribute) a
 refused-alike a w v reset s c t = rw (s, c, t) (access-by-reset (w .machine) (v .machine) _ a reset)
 
--- what an 8088 store does to a part goes by that and by the part
+-- what stores of the 8088 do to a part goes by that, by the part, and by what they draw
 pub stores-alike :
-    (a b : ℕ) (w v : World)
-    → refusal8088 (w .machine) (w .bytes Shared) (w .bytes Screen) (w .bytes Attribute) a
-    ≡ refusal8088 (v .machine) (v .bytes Shared) (v .bytes Screen) (v .bytes Attribute) a
-    → (part : Part) → Same part w v → Same part (after (Store8088 a b) w) (after (Store8088 a b) v)
-stores-alike a b w v e part s = go (refused8088 a w) refl
+    {call other : Call} {a b : ℕ} {refused test : Bool} {drawn drawn′ w v : World} → Stores call a b refused drawn w
+    → Stores other a b test drawn′ v → refused ≡ test → (part : Part) → Same part w v
+    → (refused ≡ false → Same part drawn drawn′) → Same part (after call w) (after other v)
+stores-alike {refused = true} {w = w} {v = v} s t e part same new = same-by part _ w _ v (s .stays refl) (t .stays (sym e)) same
+stores-alike {a = a} {b = b} {refused = false} {drawn = drawn} {drawn′ = drawn′} s t e part same new =
+    same-by part _ (storedIn (seen8088 a) b drawn) _ (storedIn (seen8088 a) b drawn′) (s .stored refl) (t .stored (sym e))
+    (stored-alike (seen8088 a) b drawn drawn′ part (new refl))
+
+-- and what they answer that mend the picture, by what they leave of it
+pub mends-answer :
+    {call other : Call} {a b refusal number : ℕ} {new new′ : List ℕ} {drawn drawn′ w v : World} → Mends call a b refusal new drawn w
+    → Mends other a b number new′ drawn′ v → refusal ≡ number → Same (AllOf Picture) w v → (refuses refusal ≡ false → new ≡ new′)
+    → answer call w ≡ answer other v
+mends-answer {refusal = refusal} {new = new} {new′ = new′} {w = w} m n e p f =
+    m .answers ∙ go (refuses refusal) refl ∙ rw (e, p) (sym (n .answers))
   where
-    go : (r : Bool) → refused8088 a w ≡ r → Same part (after (Store8088 a b) w) (after (Store8088 a b) v)
-    go true h = same-by part _ w _ v (store-refused a b w h) (store-refused a b v (sym (ap refuses e) ∙ h)) s
-    go false h =
-        same-by part _ (storedIn (seen8088 a) b w) _ (storedIn (seen8088 a) b v) (store-accepted a b w h)
-        (store-accepted a b v (sym (ap refuses e) ∙ h)) (stored-alike (seen8088 a) b w v part s)
+    go : (b : Bool) → refuses refusal ≡ b → mendAnswer refusal (w .bytes Picture) new ≡ mendAnswer refusal (w .bytes Picture) new′
+    go true h = rw h
+    go false h = rw (f h)
 
 z80-alike :
     (a b : ℕ) (w v : World)
@@ -161,7 +170,7 @@ machine-alike m n w v new bit reset From0800 s = s
 machine-alike m n w v new bit reset TheViewers s = s
 machine-alike m n w v new bit reset (AllOf memory) s = s
 
-viewers-alike :
+pub viewers-alike :
     (x y : Viewers) (w v : World) → (Same TheViewers w v → x ≡ y) → (part : Part) → Same part w v
     → Same part (withViewers x w) (withViewers y v)
 viewers-alike x y w v new TheMachine s = s
@@ -198,6 +207,12 @@ line-told m picture table r s line =
 list-told : (m : Machine) (picture list : List ℕ) → listLines m picture list .refusal ≡ refusalList m picture list
 list-told m picture list = told (λ (left : Listed). left .refusal) (refusalList m picture list) _ _ refl refl
 
+pub index-told :
+    (m : Machine) (screen attribute index : List ℕ)
+    → indexReaders m screen attribute index .refusal ≡ refusalIndexing screen attribute index
+index-told m screen attribute index =
+    told (λ (left : IndexedReaders). left .refusal) (refusalIndexing screen attribute index) _ _ refl refl
+
 -- a drawing answers the same, whatever the picture holds
 drawing-alike :
     (m : Machine) (screen attribute p q : List ℕ) → length p ≡ length q
@@ -222,54 +237,67 @@ aside-alike (InScreen place) shared other screen attribute byte = (refl, refl)
 aside-alike (InAttribute place) shared other screen attribute byte = (refl, refl)
 aside-alike Nowhere shared other screen attribute byte = (refl, refl)
 
-module _ (a b : ℕ) (w v : World) (c : Alike (StoreWithPicture a b) w v) where
-  same-machine : w .machine ≡ v .machine
-  unfolding has
-  same-machine = c .seen TheMachine refl
+abbrev AsSeen : Call → (w v : World) → Type 0
+AsSeen call w v = (answer call w ≡ answer call v) × ((part : Part) → Same part w v → Same part (after call w) (after call v))
 
-  same-screen : w .bytes Screen ≡ v .bytes Screen
-  unfolding has
-  same-screen = c .seen (AllOf Screen) refl
+-- a store that mends the picture answers the same, and leaves a part the same, if what it draws is
+mends-alike :
+    {call : Call} {a b refusal number : ℕ} {new new′ : List ℕ} {drawn drawn′ w v : World} → Mends call a b refusal new drawn w
+    → Mends call a b number new′ drawn′ v → refusal ≡ number → Same (AllOf Picture) w v → new ≡ new′
+    → ((part : Part) → Same part w v → Same part drawn drawn′) → AsSeen call w v
+mends-alike m n e p f drawn =
+    (mends-answer m n e p (λ _. f), λ part s. stores-alike (m .stores) (n .stores) (ap refuses e) part s (λ _. drawn part s))
 
-  same-attribute : w .bytes Attribute ≡ v .bytes Attribute
-  unfolding has
-  same-attribute = c .seen (AllOf Attribute) refl
+-- so does one that leaves the viewers, if its marks are added to theirs
+serving-alike :
+    (call : Call) (w v : World) → after call w .viewers ≡ w .viewers → after call v .viewers ≡ v .viewers → AsSeen call w v
+    → let marks : World → ℕ = λ u. getD (answer call u .numbers) 0 0 in
+    (part : Part) → Same part w v
+    → Same part (withViewers (added (w .viewers) (marks w)) (after call w)) (withViewers (added (v .viewers) (marks v)) (after call v))
+serving-alike call w v p q alike part s =
+    viewers-alike _ _ (after call w) (after call v)
+    (λ e. ap₂ added (sym p ∙ e ∙ q) (ap (λ (a : Answer). getD (a .numbers) 0 0) (alike .0))) part (alike .1 part s)
 
-  same-picture : w .bytes Picture ≡ v .bytes Picture
-  unfolding has
-  same-picture = c .seen (AllOf Picture) refl
-
-  same-refusal : refusedWithPicture a w ≡ refusedWithPicture a v
-  unfolding hasMemory
-  same-refusal = rw (same-machine, c .lengths Shared refl, same-screen, same-attribute, same-picture)
-
-  mended-alike : mendedIn a b w ≡ mendedIn a b v
-  mended-alike =
+-- what a store with a picture, or with an index too, goes by
+module _
+    (a b : ℕ)
+    (w v : World)
+    (long : length (w .bytes Shared) ≡ length (v .bytes Shared))
+    (m : Same TheMachine w v)
+    (s : Same (AllOf Screen) w v)
+    (t : Same (AllOf Attribute) w v)
+    (p : Same (AllOf Picture) w v) where
+  after-alike : chainAfter a b w ≡ chainAfter a b v
+  after-alike =
       let aside = aside-alike (seen8088 a) (w .bytes Shared) (v .bytes Shared) (v .bytes Screen) (v .bytes Attribute) b in
-      rw (same-machine, same-screen, same-attribute, same-picture, aside .0, aside .1)
+      rw (m, s, t, aside .0, aside .1)
 
-  picture-answers : (r : Bool) → refusedWithPicture a w ≡ r → answer (StoreWithPicture a b) w ≡ answer (StoreWithPicture a b) v
-  unfolding hasMemory
-  picture-answers true e =
-      rw (e, sym same-refusal ∙ e) (rw (same-machine, c .lengths Shared refl, same-screen, same-attribute, same-picture))
-  picture-answers false e =
-      let f = sym same-refusal ∙ e in
-      rw (e, f)
-      (ap (λ (l : List ℕ). answered accepted (marksOf (w .bytes Picture) l ∷ [])) mended-alike
-      ∙ ap (λ (l : List ℕ). answered accepted (marksOf l (mendedIn a b v) ∷ [])) same-picture)
+  mended-alike : {f g : ℕ} → f ≡ g → mendedIn f a b w ≡ mendedIn g a b v
+  mended-alike e = rw (e, after-alike, p)
 
-  picture-alike :
-      (r : Bool) → refusedWithPicture a w ≡ r → (part : Part) → Same part w v
-      → Same part (after (StoreWithPicture a b) w) (after (StoreWithPicture a b) v)
-  picture-alike true e part s =
-      same-by part _ w _ v (picture-refused a b w e) (picture-refused a b v (sym same-refusal ∙ e)) s
-  picture-alike false e part s =
-      let drawn = withBytes Picture (mendedIn a b w) w in
-      let drawn′ = withBytes Picture (mendedIn a b v) v in
-      same-by part _ (storedIn (seen8088 a) b drawn) _ (storedIn (seen8088 a) b drawn′) (picture-accepted a b w e)
-      (picture-accepted a b v (sym same-refusal ∙ e))
-      (stored-alike (seen8088 a) b drawn drawn′ part
-      (with-alike Picture (mendedIn a b w) (mendedIn a b v) w v (λ _. mended-alike) refl part s))
+  pictures-seen : AsSeen (StoreWithPicture a b) w v
+  pictures-seen =
+      let new = mended-alike {f = readerIn a w} {g = readerIn a v} (rw (m, s, t)) in
+      mends-alike (picture-mends a b w) (picture-mends a b v) (rw (m, long, s, t, p)) p new (with-alike Picture _ _ w v (λ _. new) refl)
+
+  indexes-seen : Same (AllOf Index) w v → AsSeen (StoreWithIndex a b) w v
+  indexes-seen i =
+      let new = mended-alike {f = namedIn a w} {g = namedIn a v} (rw i) in
+      let named : renewedIn (namedIn a w) a b w ≡ renewedIn (namedIn a v) a b v = rw (after-alike, i) in
+      mends-alike (index-mends a b w) (index-mends a b v) (rw (m, long, s, t, p, i)) p new
+      (λ part same. with-alike Picture _ _ _ _ (λ _. new) refl part (with-alike Index _ _ w v (λ _. named) refl part same))
+
+picture-seen : (a b : ℕ) (w v : World) → Alike (StoreWithPicture a b) w v → AsSeen (StoreWithPicture a b) w v
+unfolding has hasMemory
+picture-seen a b w v c =
+    pictures-seen a b w v (c .lengths Shared refl) (c .seen TheMachine refl) (c .seen (AllOf Screen) refl) (c .seen (AllOf Attribute) refl)
+    (c .seen (AllOf Picture) refl)
+
+index-seen : (a b : ℕ) (w v : World) → Alike (StoreWithIndex a b) w v → AsSeen (StoreWithIndex a b) w v
+unfolding has hasMemory
+index-seen a b w v c =
+    indexes-seen a b w v (c .lengths Shared refl) (c .seen TheMachine refl) (c .seen (AllOf Screen) refl) (c .seen (AllOf Attribute) refl)
+    (c .seen (AllOf Picture) refl) (c .seen (AllOf Index) refl)
 
 module _ (w v : World) (c : Alike Draw w v) where
   drawings-answer : answer Draw w ≡ answer Draw v
@@ -301,7 +329,7 @@ sees-only (Store8088 a b) w v c =
       ap (λ (n : ℕ). answered n [])
           (store-refusal (w .machine) (w .bytes Shared) (w .bytes Screen) (w .bytes Attribute) a b ∙ same
           ∙ sym (store-refusal (v .machine) (v .bytes Shared) (v .bytes Screen) (v .bytes Attribute) a b)),
-      stores-alike a b w v same,
+      λ part s. stores-alike (plain-stores a b w) (plain-stores a b v) (ap refuses same) part s (λ _. s),
     )
 sees-only (ReadZ80 a) w v c = (
   rw (
@@ -350,8 +378,19 @@ sees-only WatchdogTick w v c =
     let same = ap watchdogTick (c .seen TheMachine refl) in
     (refl, machine-alike _ _ w v (λ _. same) (λ _. ap z80Runs same) (λ _. ap (λ (m : Machine). m .reset) same))
 sees-only Draw w v c = (drawings-answer w v c, drawings-alike w v c)
-sees-only (StoreWithPicture a b) w v c =
-    (picture-answers a b w v c (refusedWithPicture a w) refl, picture-alike a b w v c (refusedWithPicture a w) refl)
+sees-only (StoreWithPicture a b) w v c = picture-seen a b w v c
+sees-only IndexReaders w v c =
+    let m = c .seen TheMachine refl in
+    let screen = c .seen (AllOf Screen) refl in
+    let attribute = c .seen (AllOf Attribute) refl in
+    let same : refusalIndexing (w .bytes Screen) (w .bytes Attribute) (w .bytes Index) ≡ refusalIndexing (v .bytes Screen) (v .bytes Attribute) (v .bytes Index) =
+    rw (screen, attribute, c .lengths Index refl) in (
+      ap (λ (n : ℕ). answered n [])
+          (index-told (w .machine) (w .bytes Screen) (w .bytes Attribute) (w .bytes Index) ∙ same
+          ∙ sym (index-told (v .machine) (v .bytes Screen) (v .bytes Attribute) (v .bytes Index))),
+      with-alike Index _ _ w v (λ e. rw (m, screen, attribute, e)) refl,
+    )
+sees-only (StoreWithIndex a b) w v c = index-seen a b w v c
 sees-only DrawForViewers w v c =
     let alike : Alike Draw w v = record { lengths = c .lengths; seen = c .seen } in
     let same = drawings-answer w v alike in (
@@ -360,13 +399,11 @@ sees-only DrawForViewers w v c =
           (λ e. rw (e, ap (λ (a : Answer). a .refusal) same)) part (drawings-alike w v alike part s),
     )
 sees-only (StoreForViewers a b) w v c =
-    let alike : Alike (StoreWithPicture a b) w v = record { lengths = c .lengths; seen = c .seen } in
-    let same = picture-answers a b w v alike (refusedWithPicture a w) refl in (
-      same,
-      λ part s. viewers-alike _ _ (after (StoreWithPicture a b) w) (after (StoreWithPicture a b) v)
-          (λ e. rw (e, ap (λ (a : Answer). getD (a .numbers) 0 0) same)) part
-          (picture-alike a b w v alike (refusedWithPicture a w) refl part s),
-    )
+    let same = picture-seen a b w v (record { lengths = c .lengths; seen = c .seen }) in
+    (same .0, serving-alike (StoreWithPicture a b) w v refl refl same)
+sees-only (StoreWithIndexForViewers a b) w v c =
+    let same = index-seen a b w v (record { lengths = c .lengths; seen = c .seen }) in
+    (same .0, serving-alike (StoreWithIndex a b) w v refl refl same)
 sees-only (Ask n) w v c =
     let same = c .seen TheViewers refl in
     (rw same, viewers-alike _ _ w v (λ _. rw same))

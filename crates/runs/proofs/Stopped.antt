@@ -2,7 +2,7 @@
 use Prim.Native.Nat.{ℕ}
 use mathlib.Core.Path.{_≡_, refl, sym, ap, _∙_}
 use mathlib.Core.List.{List, [], _∷_}
-use mathlib.Core.Bool.{Bool, true, false, not, cond, _&&_, _||_, false≢true, and-eq-true-iff}
+use mathlib.Core.Bool.{Bool, true, false, not, cond, _||_, false≢true, and-eq-true-iff}
 use lib.ListN.{length}
 use lib.Dec.{eqb}
 use borrow.Author.Tests.{eqb-true, not-true}
@@ -19,11 +19,11 @@ use Rattle.shadow.proofs.Laws.{place-in-reset}
 use Rattle.diagnostic.specs.Diagnostic.{WrittenPort, writtenPort}
 use Rattle.ports.specs.Ports.{lengthsNvm}
 use Rattle.ports.proofs.Laws.{port-in-reset}
-use Rattle.mending.specs.Store.{StoredWithPicture}
-use Rattle.runs.specs.World.{Shared, Private, Screen, Attribute, Nvm, Shadow, Picture, World, Call, Read8088, Store8088, ReadZ80, StoreZ80, ReadShadow, WriteShadow, WritePort, VerticalTick, WatchdogTick, Draw, StoreWithPicture, DrawForViewers, StoreForViewers, Ask, GlyphPart, DrawLine, ListLines, Explain, Answer, answer}
+use Rattle.runs.specs.World.{Shared, Private, Screen, Attribute, Nvm, Shadow, World, Call, Read8088, Store8088, ReadZ80, StoreZ80, ReadShadow, WriteShadow, WritePort, VerticalTick, WatchdogTick, Draw, StoreWithPicture, IndexReaders, StoreWithIndex, DrawForViewers, StoreForViewers, StoreWithIndexForViewers, Ask, GlyphPart, DrawLine, ListLines, Explain, answer}
 use Rattle.runs.specs.Z80.{isZ80}
 use Rattle.runs.specs.Kept.{lending, Step, Made, Lending, stepped}
 use Rattle.runs.specs.Stopped.{Processor, The8088, TheZ80, is8088, isOf, isStopped, stopNumber, callOf, answerOf, steppedAll, stoppedAt, stoppedAtItsCalls, answersOf, allStopped, without, StoppedTouchesNothing}
+use Rattle.runs.proofs.Worlds.{mends-refusal, picture-mends, index-mends}
 use Rattle.runs.proofs.Refused.{changes-nothing}
 use Rattle.runs.proofs.Sees.{told, z80-told, shadow-told}
 use Rattle.runs.proofs.Z80.{of-z80}
@@ -86,10 +86,10 @@ module _ (w : World) (reset : w .machine .reset ≡ true) where
   stopped-8088 (Read8088 a) is = by-access _ a _ (told (λ (read : ByteRead). read .refusal) _ _ _ refl refl)
   stopped-8088 (Store8088 a b) is =
       by-access _ a _ (store-refusal (w .machine) (w .bytes Shared) (w .bytes Screen) (w .bytes Attribute) a b)
-  stopped-8088 (StoreWithPicture a b) is =
-      by-access _ a _ (told (λ (left : StoredWithPicture). left .answer .refusal) _ _ _ refl refl)
-  stopped-8088 (StoreForViewers a b) is =
-      by-access _ a _ (told (λ (left : StoredWithPicture). left .answer .refusal) _ _ _ refl refl)
+  stopped-8088 (StoreWithPicture a b) is = by-access _ a _ (mends-refusal (picture-mends a b w))
+  stopped-8088 (StoreForViewers a b) is = by-access _ a _ (mends-refusal (picture-mends a b w))
+  stopped-8088 (StoreWithIndex a b) is = by-access _ a _ (mends-refusal (index-mends a b w))
+  stopped-8088 (StoreWithIndexForViewers a b) is = by-access _ a _ (mends-refusal (index-mends a b w))
   stopped-8088 (ReadShadow p) is = by-place p _ (told (λ (read : ByteRead). read .refusal) _ _ _ refl refl)
   stopped-8088 (WriteShadow p b) is = by-place p _ (shadow-told (w .machine) p b (w .bytes Shadow))
   stopped-8088 (WritePort p k) is = by-port p k
@@ -99,6 +99,7 @@ module _ (w : World) (reset : w .machine .reset ≡ true) where
   stopped-8088 WatchdogTick is = absurd (false≢true is)
   stopped-8088 Draw is = absurd (false≢true is)
   stopped-8088 DrawForViewers is = absurd (false≢true is)
+  stopped-8088 IndexReaders is = absurd (false≢true is)
   stopped-8088 (Ask n) is = absurd (false≢true is)
   stopped-8088 (GlyphPart k) is = absurd (false≢true is)
   stopped-8088 (DrawLine r s) is = absurd (false≢true is)

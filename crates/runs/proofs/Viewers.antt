@@ -1,6 +1,6 @@
 -- What a viewer is told: the statements of specs/Viewers.antt.
 use Prim.Native.Nat.{ℕ, zero, suc, _<_}
-use mathlib.Core.Path.{_≡_, refl, sym, ap, ap₂, _∙_}
+use mathlib.Core.Path.{_≡_, refl, subst, sym, ap, ap₂, _∙_}
 use mathlib.Core.List.{List, [], _∷_, map}
 use mathlib.Core.Bool.{Bool, true, false, not, cond, _&&_, _||_, true≢false, false≢true, or-comm}
 use native.Mathlib.Omega.{arith}
@@ -14,17 +14,19 @@ use Rattle.chain.specs.Chain.{rows}
 use Rattle.marks.specs.Marks.{bitSet, marksTo, joined}
 use Rattle.marks.proofs.Laws.{none-marked, joined-marks, same-marks}
 use Rattle.marks.proofs.Marks.{bit-by-bit}
-use Rattle.mending.specs.Mending.{changed}
+use Rattle.mending.specs.Mending.{marksOf}
 use Rattle.mending.proofs.Changes.{marks-of}
+use Rattle.index.proofs.Meaning.{marks-of as index-marks-of}
 use Rattle.viewers.specs.Viewers.{viewers, start, added, ask}
 use Rattle.viewers.specs.declared.Viewers.{Viewers}
 use Rattle.viewers.proofs.Laws.{none-added, added-own}
-use Rattle.runs.specs.World.{Shared, Screen, Attribute, Picture, World, withViewers, Call, Read8088, Store8088, ReadZ80, StoreZ80, ReadShadow, WriteShadow, WritePort, VerticalTick, WatchdogTick, Draw, StoreWithPicture, DrawForViewers, StoreForViewers, Ask, GlyphPart, DrawLine, ListLines, Explain, Answer, answered, after, answer}
+use Rattle.runs.specs.World.{Shared, Screen, Attribute, Picture, Index, World, withViewers, Call, Read8088, Store8088, ReadZ80, StoreZ80, ReadShadow, WriteShadow, WritePort, VerticalTick, WatchdogTick, Draw, StoreWithPicture, IndexReaders, StoreWithIndex, DrawForViewers, StoreForViewers, StoreWithIndexForViewers, Ask, GlyphPart, DrawLine, ListLines, Explain, Answer, answered, after, answer}
+use Rattle.runs.specs.Refused.{AllZero}
 use Rattle.runs.specs.Reach.{TheViewers, has, mayChange}
 use Rattle.runs.specs.Kept.{lending, keeping, Step, Made, Lending, stepped}
 use Rattle.runs.specs.Stopped.{callOf, answerOf, steppedAll}
 use Rattle.runs.specs.Viewers.{Event, Started, DrawnAfresh, Marked, Asked, Nothing, eventOf, happened, pastOf, isAskOf, since, marked, AnswersTheMarked, isAsk, isAnothersAsk, withoutOthers, answersWithoutOthers, OthersMayAsk}
-use Rattle.runs.proofs.Worlds.{refusedWithPicture}
+use Rattle.runs.proofs.Worlds.{pictureRefusal, indexRefusal}
 use Rattle.runs.proofs.Refused.{changes-nothing}
 use Rattle.runs.proofs.Reach.{stored-apart, changes-only}
 use Rattle.runs.proofs.Kept.{kept-as-lent}
@@ -34,13 +36,44 @@ pub record Quiet (call : Call) : Type 0 where
   pub leaves : mayChange call TheViewers ≡ false
   pub nothing : (numbers : List ℕ) → eventOf call numbers ≡ Nothing
 
--- every call is one of three, or quiet
+-- a store that serves viewers does as another does, and adds its marks, of the rows whose record changed, to theirs
+pub record Serves (serving plain : Call) : Type 0 where
+  pub answers : (u : World) → answer serving u ≡ answer plain u
+  pub leaves : (u : World) → after serving u ≡ withViewers (added (u .viewers) (getD (answer plain u .numbers) 0 0)) (after plain u)
+  pub event : (numbers : List ℕ) → eventOf serving numbers ≡ Marked (getD numbers 0 0)
+  pub marks : (u : World) → getD (answer plain u .numbers) 0 0 ≡ marksOf (u .bytes Picture) (after plain u .bytes Picture)
+
+picture-serves : (a b : ℕ) → Serves (StoreForViewers a b) (StoreWithPicture a b)
+picture-serves a b =
+    record {
+      answers = λ u. refl;
+      leaves = λ u. refl;
+      event = λ _. refl;
+      marks =
+          λ u. marks-of (u .machine) (u .bytes Shared) (u .bytes Screen) (u .bytes Attribute) (u .bytes Picture) a b (refuses (pictureRefusal a u))
+          refl;
+    }
+
+index-serves : (a b : ℕ) → Serves (StoreWithIndexForViewers a b) (StoreWithIndex a b)
+index-serves a b =
+    record {
+      answers = λ u. refl;
+      leaves = λ u. refl;
+      event = λ _. refl;
+      marks =
+          λ u. index-marks-of (u .machine) (u .bytes Shared) (u .bytes Screen) (u .bytes Attribute) (u .bytes Picture) (u .bytes Index) a b
+          (refuses (indexRefusal a u)) refl;
+    }
+
+-- every call is a drawing or a store that serves viewers, an ask, or quiet
 pub by-call :
-    (P : Call → Type 0) → P DrawForViewers → ((a b : ℕ) → P (StoreForViewers a b)) → ((n : ℕ) → P (Ask n))
+    (P : Call → Type 0) → P DrawForViewers → ((serving plain : Call) → Serves serving plain → P serving) → ((n : ℕ) → P (Ask n))
     → ((call : Call) → Quiet call → P call) → (call : Call) → P call
 unfolding has
 by-call P draws stores asks quiet DrawForViewers = draws
-by-call P draws stores asks quiet (StoreForViewers a b) = stores a b
+by-call P draws stores asks quiet (StoreForViewers a b) = stores (StoreForViewers a b) (StoreWithPicture a b) (picture-serves a b)
+by-call P draws stores asks quiet (StoreWithIndexForViewers a b) =
+    stores (StoreWithIndexForViewers a b) (StoreWithIndex a b) (index-serves a b)
 by-call P draws stores asks quiet (Ask n) = asks n
 by-call P draws stores asks quiet (Read8088 a) = quiet (Read8088 a) (record { leaves = refl; nothing = λ _. refl })
 by-call P draws stores asks quiet (Store8088 a b) =
@@ -55,6 +88,9 @@ by-call P draws stores asks quiet WatchdogTick = quiet WatchdogTick (record { le
 by-call P draws stores asks quiet Draw = quiet Draw (record { leaves = refl; nothing = λ _. refl })
 by-call P draws stores asks quiet (StoreWithPicture a b) =
     quiet (StoreWithPicture a b) (record { leaves = stored-apart (seen8088 a) TheViewers refl; nothing = λ _. refl })
+by-call P draws stores asks quiet IndexReaders = quiet IndexReaders (record { leaves = refl; nothing = λ _. refl })
+by-call P draws stores asks quiet (StoreWithIndex a b) =
+    quiet (StoreWithIndex a b) (record { leaves = stored-apart (seen8088 a) TheViewers refl; nothing = λ _. refl })
 by-call P draws stores asks quiet (GlyphPart k) = quiet (GlyphPart k) (record { leaves = refl; nothing = λ _. refl })
 by-call P draws stores asks quiet (DrawLine r s) = quiet (DrawLine r s) (record { leaves = refl; nothing = λ _. refl })
 by-call P draws stores asks quiet ListLines = quiet ListLines (record { leaves = refl; nothing = λ _. refl })
@@ -65,6 +101,11 @@ cleared : (l : List ℕ) (n : ℕ) → getD (set l n 0) n 0 ≡ 0
 cleared [] n = refl
 cleared (x ∷ l) zero = refl
 cleared (x ∷ l) (suc n) = cleared l n
+
+-- the first number of an answer with no number but 0
+first-zero : (numbers : List ℕ) → AllZero numbers → getD numbers 0 0 ≡ 0
+first-zero [] zeros = refl
+first-zero (number ∷ numbers) zeros = zeros .0
 
 -- what waits for one viewer
 module _ (viewer : ℕ) (within : viewer < viewers) where
@@ -138,23 +179,20 @@ module _ (viewer : ℕ) (within : viewer < viewers) where
       go true = nothing-waits h
       go false = all-wait past
 
-  store-goes : (a b : ℕ) → Goes (StoreForViewers a b)
-  store-goes a b u past h = go (refuses (answer (StoreWithPicture a b) u .refusal)) refl
+  store-goes : (serving plain : Call) → Serves serving plain → Goes serving
+  store-goes serving plain s u past h =
+      rw (s .answers u, s .event (answer plain u .numbers), s .leaves u) (go (refuses (answer plain u .refusal)) refl)
     where
       marks : ℕ
-      marks = getD (answer (StoreWithPicture a b) u .numbers) 0 0
-
-      of-rows : marks ≡ marksTo (changed (u .bytes Picture) (after (StoreWithPicture a b) u .bytes Picture)) rows
-      of-rows =
-          marks-of (u .machine) (u .bytes Shared) (u .bytes Screen) (u .bytes Attribute) (u .bytes Picture) a b (refusedWithPicture a u) refl
+      marks = getD (answer plain u .numbers) 0 0
 
       go :
-          (r : Bool) → refuses (answer (StoreWithPicture a b) u .refusal) ≡ r
-          → Waits (cond r Nothing (Marked marks) ∷ past) (added (u .viewers) marks)
+          (r : Bool) → refuses (answer plain u .refusal) ≡ r → Waits (cond r Nothing (Marked marks) ∷ past) (added (u .viewers) marks)
       go true e =
-          let none = changes-nothing (StoreWithPicture a b) u (λ f. false≢true (sym (ap refuses f) ∙ e)) .1 .0 in
-          rw (none, none-added (u .viewers)) (nothing-waits h)
-      go false e = adds _ marks of-rows h
+          let none = changes-nothing plain u (λ f. false≢true (sym (ap refuses f) ∙ e)) .1 in
+          subst (λ (n : ℕ). Waits (Nothing ∷ past) (added (u .viewers) n)) (sym (first-zero (answer plain u .numbers) none))
+          (rw (none-added (u .viewers)) (nothing-waits h))
+      go false e = adds _ marks (s .marks u) h
 
   ask-goes : (n : ℕ) → Goes (Ask n)
   ask-goes n u past h = go (ltb n viewers) refl
@@ -204,6 +242,9 @@ blind Draw w = (λ _. refl, refl)
 blind (StoreWithPicture a b) w = (λ _. refl, refl)
 blind DrawForViewers w = (λ _. refl, refl)
 blind (StoreForViewers a b) w = (λ _. refl, refl)
+blind IndexReaders w = (λ _. refl, refl)
+blind (StoreWithIndex a b) w = (λ _. refl, refl)
+blind (StoreWithIndexForViewers a b) w = (λ _. refl, refl)
 blind (Ask n) w = (λ ask. absurd (true≢false ask), refl)
 blind (GlyphPart k) w = (λ _. refl, refl)
 blind (DrawLine r s) w = (λ _. refl, refl)
@@ -256,17 +297,23 @@ module _ (viewer : ℕ) where
       go true = same .1
       go false = record { as-many = refl; own = refl }
 
-  store-alike : (a b : ℕ) → Alike (StoreForViewers a b)
+  added-alike : {x y : Viewers} (marks : ℕ) → SameOwn x y → SameOwn (added x marks) (added y marks)
+  added-alike {x} {y} marks same =
+      let f : ℕ → ℕ = λ (waits : ℕ). joined waits marks in
+      record {
+        as-many = length-map (x .waiting) f ∙ same .as-many ∙ sym (length-map (y .waiting) f);
+        own = mapped-alike f (x .waiting) (y .waiting) viewer (same .as-many) (same .own);
+      }
+
+  store-alike : (serving plain : Call) → Serves serving plain → Alike serving
   unfolding SameFor
-  store-alike a b w v h same =
-      let answers = same-answer (StoreForViewers a b) w v refl (same .0) in
-      let f : ℕ → ℕ = λ (waits : ℕ). joined waits (getD (answer (StoreForViewers a b) v .numbers) 0 0) in (
+  store-alike serving plain s w v h same =
+      let answers = same-answer serving w v (ap isAsk (s .event [])) (same .0) in
+      let marks : World → ℕ = λ u. getD (answer plain u .numbers) 0 0 in
+      let alike : marks w ≡ marks v = ap (λ (a : Answer). getD (a .numbers) 0 0) (sym (s .answers w) ∙ answers ∙ s .answers v) in (
         answers,
-        rw (ap (λ (a : Answer). getD (a .numbers) 0 0) answers)
-            (record {
-              as-many = length-map (w .viewers .waiting) f ∙ same .1 .as-many ∙ sym (length-map (v .viewers .waiting) f);
-              own = mapped-alike f (w .viewers .waiting) (v .viewers .waiting) viewer (same .1 .as-many) (same .1 .own);
-            }),
+        rw (s .leaves w, s .leaves v)
+            (subst (λ (n : ℕ). SameOwn (added (w .viewers) n) (added (v .viewers) (marks v))) (sym alike) (added-alike (marks v) (same .1))),
       )
 
   ask-alike : (n : ℕ) → Alike (Ask n)
@@ -327,12 +374,14 @@ module _ (viewer : ℕ) where
   Aside call =
       isAnothersAsk viewer call ≡ true → (w : World) → (unwatched (after call w) ≡ unwatched w) × SameOwn (after call w .viewers) (w .viewers)
 
+  no-ask : (call : Call) → isAsk (eventOf call []) ≡ false → Aside call
+  no-ask call none h =
+      absurd (false≢true (sym (ap (λ (b : Bool). b && not (isAskOf viewer (eventOf call []))) none) ∙ h))
+
   call-aside : (call : Call) → Aside call
   call-aside =
-      by-call Aside (λ h. absurd (false≢true h)) (λ a b h. absurd (false≢true h)) (λ n h w. (refl, ask-aside n w h))
-      (λ call q h.
-      let none = ap (λ (event : Event). isAsk event && not (isAskOf viewer event)) (q .nothing []) in
-      absurd (false≢true (sym none ∙ h)))
+      by-call Aside (no-ask DrawForViewers refl) (λ serving plain s. no-ask serving (ap isAsk (s .event [])))
+      (λ n h w. (refl, ask-aside n w h)) (λ call q. no-ask call (ap isAsk (q .nothing [])))
 
   step-aside : (step : Step) (w : World) → isAnothersAsk viewer (callOf step) ≡ true → SameFor (stepped step w) w
   unfolding SameFor

@@ -12,7 +12,7 @@ use Rattle.machine.specs.Settings.{bit}
 use Rattle.machine.specs.Watchdog.{watchTicks, watchdogTick}
 use Rattle.machine.specs.declared.Machine.{Machine}
 use Rattle.chain.proofs.Searching.{neither}
-use Rattle.runs.specs.World.{Nvm, Shadow, World, Call, Read8088, Store8088, ReadZ80, StoreZ80, ReadShadow, WriteShadow, WritePort, VerticalTick, WatchdogTick, Draw, StoreWithPicture, DrawForViewers, StoreForViewers, Ask, GlyphPart, DrawLine, ListLines, Explain, after, answer}
+use Rattle.runs.specs.World.{Nvm, Shadow, World, Call, Read8088, Store8088, ReadZ80, StoreZ80, ReadShadow, WriteShadow, WritePort, VerticalTick, WatchdogTick, Draw, StoreWithPicture, IndexReaders, StoreWithIndex, DrawForViewers, StoreForViewers, StoreWithIndexForViewers, Ask, GlyphPart, DrawLine, ListLines, Explain, after, answer}
 use Rattle.runs.specs.Kept.{lending, Step, Made, Lending, stepped}
 use Rattle.runs.specs.Stopped.{callOf, answerOf, steppedAll}
 use Rattle.runs.specs.Watchdog.{Event, Tick, Wrote, Nothing, happened, enabled, is09, enables, ticks, is128th, inReset, sinceReset, sinceStart, pastOf, MeansTicks, CountMeansTicks, sinceWrite, TopBitOfTheTimer}
@@ -55,6 +55,9 @@ follows (WriteShadow p b) w = either-way (refuses (answer (WriteShadow p b) w .r
 follows Draw w = either-way (refuses (answer Draw w .refusal)) (w .machine)
 follows DrawForViewers w = either-way (refuses (answer DrawForViewers w .refusal)) (w .machine)
 follows (StoreForViewers a b) w = either-way (refuses (answer (StoreForViewers a b) w .refusal)) (w .machine)
+follows IndexReaders w = either-way (refuses (answer IndexReaders w .refusal)) (w .machine)
+follows (StoreWithIndex a b) w = either-way (refuses (answer (StoreWithIndex a b) w .refusal)) (w .machine)
+follows (StoreWithIndexForViewers a b) w = either-way (refuses (answer (StoreWithIndexForViewers a b) w .refusal)) (w .machine)
 follows (Ask n) w = either-way (refuses (answer (Ask n) w .refusal)) (w .machine)
 follows (GlyphPart k) w = either-way (refuses (answer (GlyphPart k) w .refusal)) (w .machine)
 follows (DrawLine r s) w = either-way (refuses (answer (DrawLine r s) w .refusal)) (w .machine)

@@ -16,16 +16,16 @@ use Rattle.dc011.specs.Dc011.{writeDc011}
 use Rattle.dc012.specs.Dc012.{writeDc012}
 use Rattle.diagnostic.specs.Diagnostic.{WrittenPort, writtenPort, rises}
 use Rattle.ports.specs.Ports.{refusalPort, watched}
-use Rattle.memories.specs.View8088.{seen8088}
+use Rattle.memories.specs.View8088.{refusedAccess}
 use Rattle.memories.proofs.Laws.{access-by-reset}
 use Rattle.chain.proofs.Searching.{neither}
-use Rattle.runs.specs.World.{Memory, Shared, Private, Screen, Attribute, Glyphs, Nvm, Shadow, Picture, Line, ScreenList, isMemory, World, withBytes, Call, Read8088, Store8088, ReadZ80, StoreZ80, ReadShadow, WriteShadow, WritePort, VerticalTick, WatchdogTick, Draw, StoreWithPicture, DrawForViewers, StoreForViewers, Ask, GlyphPart, DrawLine, ListLines, Explain, after, answer}
-use Rattle.runs.specs.Reach.{Part, TheMachine, Z80Bit, InReset, Below0800, From0800, TheViewers, AllOf, numberOfPart, has, hasMemory, Same, mayChange, Alike}
+use Rattle.runs.specs.World.{Memory, Shared, Private, Screen, Attribute, Glyphs, Nvm, Shadow, Picture, Line, ScreenList, Index, isMemory, World, Call, Read8088, Store8088, ReadZ80, StoreZ80, ReadShadow, WriteShadow, WritePort, VerticalTick, WatchdogTick, Draw, StoreWithPicture, IndexReaders, StoreWithIndex, DrawForViewers, StoreForViewers, StoreWithIndexForViewers, Ask, GlyphPart, DrawLine, ListLines, Explain, after, answer}
+use Rattle.runs.specs.Reach.{Part, TheMachine, Z80Bit, InReset, Below0800, From0800, TheViewers, AllOf, numberOfPart, has, hasMemory, Same, mayChange}
 use Rattle.runs.specs.Z80.{onlyParts, onlyMemories, z80Lent, z80Sees, isZ80, ItsTwoCalls, OnlyItsOwn, runsAfter, BitFromCode, CodeHas, Agree, unseenByZ80, Turn, Both, LeftAlone, RightAlone, left, right, answers, SameBit, storesInBoth, SameLengths, SameAnswers, CodesHave, SameBitByCodes}
-use Rattle.runs.proofs.Worlds.{is-memory, mendedIn, refusedWithPicture, picture-refused, picture-accepted}
+use Rattle.runs.proofs.Worlds.{is-memory, plain-stores, drawnWithPicture, picture-mends, drawnWithIndex, index-mends}
 use Rattle.runs.proofs.Ports.{dc011-left, watched-held}
-use Rattle.runs.proofs.Reach.{same-refl, same-by, tick-runs, changes-only, lengths-stay}
-use Rattle.runs.proofs.Sees.{refused-alike, stored-alike, stores-alike, sees-only}
+use Rattle.runs.proofs.Reach.{same-refl, tick-runs, changes-only, lengths-stay}
+use Rattle.runs.proofs.Sees.{stores-alike, sees-only}
 
 pub its-two-calls : ItsTwoCalls
 unfolding onlyParts onlyMemories has hasMemory
@@ -49,6 +49,9 @@ of-z80 P reads stores DrawForViewers is = absurd (false≢true is)
 of-z80 P reads stores (StoreForViewers a b) is = absurd (false≢true is)
 of-z80 P reads stores (Ask n) is = absurd (false≢true is)
 of-z80 P reads stores (StoreWithPicture a b) is = absurd (false≢true is)
+of-z80 P reads stores IndexReaders is = absurd (false≢true is)
+of-z80 P reads stores (StoreWithIndex a b) is = absurd (false≢true is)
+of-z80 P reads stores (StoreWithIndexForViewers a b) is = absurd (false≢true is)
 of-z80 P reads stores (GlyphPart k) is = absurd (false≢true is)
 of-z80 P reads stores (DrawLine r s) is = absurd (false≢true is)
 of-z80 P reads stores ListLines is = absurd (false≢true is)
@@ -105,6 +108,9 @@ keeps-the-bit WatchdogTick w runs h codes = tick-runs (w .machine) ∙ h
 keeps-the-bit Draw w runs h codes = h
 keeps-the-bit DrawForViewers w runs h codes = h
 keeps-the-bit (StoreForViewers a b) w runs h codes = h
+keeps-the-bit IndexReaders w runs h codes = h
+keeps-the-bit (StoreWithIndex a b) w runs h codes = h
+keeps-the-bit (StoreWithIndexForViewers a b) w runs h codes = h
 keeps-the-bit (Ask n) w runs h codes = h
 keeps-the-bit (GlyphPart k) w runs h codes = h
 keeps-the-bit (DrawLine r s) w runs h codes = h
@@ -133,30 +139,29 @@ unseen call w h =
       from0800 = changes-only call w From0800 (none .1);
     }
 
--- what a store with a picture does to a part goes by reset, the lengths and the address, if the picture does not
-pub pictures-alike :
-    (a b : ℕ) (w v : World) → Same InReset w v → SameLengths w v → (part : Part) → Same part w v
-    → Same part (withBytes Picture (mendedIn a b w) w) (withBytes Picture (mendedIn a b v) v)
-    → Same part (after (StoreWithPicture a b) w) (after (StoreWithPicture a b) v)
-pictures-alike a b w v reset lengths part same drawn = go (refusedWithPicture a w) refl
-  where
-    alike : refusedWithPicture a w ≡ refusedWithPicture a v
-    alike =
-        rw (lengths Shared, lengths Screen, lengths Attribute, lengths Picture)
-        (ap refuses (access-by-reset (w .machine) (v .machine) _ a reset))
+-- what a store of the 8088 does to a part goes by reset, the lengths and the address, if what it draws does not
+module _ (a b : ℕ) (w v : World) (reset : Same InReset w v) (lengths : SameLengths w v) (part : Part) (same : Same part w v) where
+  by-reset : (lent : Bool) → refuses (refusedAccess (w .machine) lent a) ≡ refuses (refusedAccess (v .machine) lent a)
+  by-reset lent = ap refuses (access-by-reset (w .machine) (v .machine) lent a reset)
 
-    go : (r : Bool) → refusedWithPicture a w ≡ r → Same part (after (StoreWithPicture a b) w) (after (StoreWithPicture a b) v)
-    go true e = same-by part _ w _ v (picture-refused a b w e) (picture-refused a b v (sym alike ∙ e)) same
-    go false e =
-        same-by part _ _ _ _ (picture-accepted a b w e) (picture-accepted a b v (sym alike ∙ e))
-        (stored-alike (seen8088 a) b _ _ part drawn)
+  pub stores-by-length : Same part (after (Store8088 a b) w) (after (Store8088 a b) v)
+  stores-by-length =
+      stores-alike (plain-stores a b w) (plain-stores a b v) (rw (lengths Shared, lengths Screen, lengths Attribute) (by-reset _)) part
+      same (λ _. same)
 
--- what a store with no picture does goes by the same
-pub stores-by-length :
-    (a b : ℕ) (w v : World) → Same InReset w v → SameLengths w v → (part : Part) → Same part w v
-    → Same part (after (Store8088 a b) w) (after (Store8088 a b) v)
-stores-by-length a b w v reset lengths =
-    stores-alike a b w v (refused-alike a w v reset (lengths Shared) (lengths Screen) (lengths Attribute))
+  pub pictures-by-length :
+      Same part (drawnWithPicture a b w) (drawnWithPicture a b v)
+      → Same part (after (StoreWithPicture a b) w) (after (StoreWithPicture a b) v)
+  pictures-by-length drawn =
+      stores-alike (picture-mends a b w .stores) (picture-mends a b v .stores)
+      (rw (lengths Shared, lengths Screen, lengths Attribute, lengths Picture) (by-reset _)) part same (λ _. drawn)
+
+  pub indexes-by-length :
+      Same part (drawnWithIndex a b w) (drawnWithIndex a b v)
+      → Same part (after (StoreWithIndex a b) w) (after (StoreWithIndex a b) v)
+  indexes-by-length drawn =
+      stores-alike (index-mends a b w .stores) (index-mends a b v .stores)
+      (rw (lengths Shared, lengths Screen, lengths Attribute, lengths Picture, lengths Index) (by-reset _)) part same (λ _. drawn)
 
 first-of : (one rest : Bool) → one || false ≡ true → one || rest ≡ true
 first-of true rest h = refl
@@ -204,6 +209,7 @@ module _ (w v : World) (same : Agree w v) where
   sees-same bit (AllOf Picture) h = absurd (false≢true h)
   sees-same bit (AllOf Line) h = absurd (false≢true h)
   sees-same bit (AllOf ScreenList) h = absurd (false≢true h)
+  sees-same bit (AllOf Index) h = absurd (false≢true h)
 
   its-bit : Same Z80Bit w v → (part : Part) → has (Z80Bit ∷ []) part ≡ true → Same part w v
   unfolding has
@@ -233,11 +239,17 @@ module _ (w v : World) (same : Agree w v) where
       after-both (Store8088 a b) (stores-by-length a b w v reset lengths (AllOf Private) (same .private))
       (stores-by-length a b w v reset lengths From0800 (same .from0800))
   stores-in-both (StoreWithPicture a b) is un reset lengths =
-      after-both (StoreWithPicture a b) (pictures-alike a b w v reset lengths (AllOf Private) (same .private) (same .private))
-      (pictures-alike a b w v reset lengths From0800 (same .from0800) (same .from0800))
+      after-both (StoreWithPicture a b) (pictures-by-length a b w v reset lengths (AllOf Private) (same .private) (same .private))
+      (pictures-by-length a b w v reset lengths From0800 (same .from0800) (same .from0800))
   stores-in-both (StoreForViewers a b) is un reset lengths =
-      after-both (StoreForViewers a b) (pictures-alike a b w v reset lengths (AllOf Private) (same .private) (same .private))
-      (pictures-alike a b w v reset lengths From0800 (same .from0800) (same .from0800))
+      after-both (StoreForViewers a b) (pictures-by-length a b w v reset lengths (AllOf Private) (same .private) (same .private))
+      (pictures-by-length a b w v reset lengths From0800 (same .from0800) (same .from0800))
+  stores-in-both (StoreWithIndex a b) is un reset lengths =
+      after-both (StoreWithIndex a b) (indexes-by-length a b w v reset lengths (AllOf Private) (same .private) (same .private))
+      (indexes-by-length a b w v reset lengths From0800 (same .from0800) (same .from0800))
+  stores-in-both (StoreWithIndexForViewers a b) is un reset lengths =
+      after-both (StoreWithIndexForViewers a b) (indexes-by-length a b w v reset lengths (AllOf Private) (same .private) (same .private))
+      (indexes-by-length a b w v reset lengths From0800 (same .from0800) (same .from0800))
   stores-in-both (ReadZ80 a) is un reset lengths = absurd (true≢false is)
   stores-in-both (StoreZ80 a b) is un reset lengths = absurd (true≢false is)
   stores-in-both (Read8088 a) is un reset lengths = absurd (true≢false un)
@@ -248,6 +260,7 @@ module _ (w v : World) (same : Agree w v) where
   stores-in-both WatchdogTick is un reset lengths = absurd (true≢false un)
   stores-in-both Draw is un reset lengths = absurd (true≢false un)
   stores-in-both DrawForViewers is un reset lengths = absurd (true≢false un)
+  stores-in-both IndexReaders is un reset lengths = absurd (true≢false un)
   stores-in-both (Ask n) is un reset lengths = absurd (true≢false un)
   stores-in-both (GlyphPart k) is un reset lengths = absurd (true≢false un)
   stores-in-both (DrawLine r s) is un reset lengths = absurd (true≢false un)

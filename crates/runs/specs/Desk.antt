@@ -15,7 +15,7 @@ use Rattle.explaining.specs.Shown.{pairIn}
 use Rattle.explaining.specs.declared.Led.{Led}
 use Rattle.explaining.specs.declared.Why.the-variants.{Cell}
 use Rattle.runs.specs.World.{Screen, Attribute, Picture, World, StoreWithPicture, after, answer}
-use Rattle.runs.specs.Kept.{Kept}
+use Rattle.runs.specs.Kept.{PictureKept}
 
 -- "screen at EE000 to EEFFF"
 abbrev pub storeAt : (place byte : ℕ) → World → World
@@ -24,7 +24,7 @@ storeAt place byte = after (StoreWithPicture (0xEE000 + place) byte)
 -- the picture is kept, the call names a cell and its place, no earlier row reads that place, and the store there is
 -- accepted
 pub record Asked (w : World) (row column place byte : ℕ) : Type 0 where
-  pub kept : Kept w
+  pub kept : PictureKept w
   pub kind : ℕ
   pub led : Led
   pub named : explain (w .machine) (w .bytes Screen) (w .bytes Attribute) row column ≡ Cell place kind led

@@ -12,7 +12,8 @@ use Rattle.runs.specs.Z80.{CodeHas}
 use Rattle.runs.specs.Kept.{Step, stepped}
 use Rattle.runs.specs.Stopped.{TheZ80, is8088, callOf, answerOf, steppedAll, stoppedAtItsCalls, TouchesNothing}
 
--- the stores of the 8088 into shared memory that a run accepts, with a picture lent or without, and nothing else
+-- the stores of the 8088 into shared memory that a run accepts, with a picture lent, an index too, or neither, and
+-- nothing else
 abbrev pub storesShared : Call → Bool
 storesShared call = is8088 call && mayChange call (AllOf Shared)
 

@@ -10,7 +10,7 @@ use Rattle.memories.specs.View8088.{seen8088}
 use Rattle.memories.specs.ViewZ80.{sharedFrom}
 use Rattle.memories.specs.declared.view8088.Seen.{Seen}
 use Rattle.memories.specs.declared.view8088.Seen.the-variants.{Shared as InShared, Screen as InScreen, Attribute as InAttribute, Nowhere}
-use Rattle.runs.specs.World.{Memory, Shared, Private, Screen, Attribute, Glyphs, Nvm, Shadow, Picture, Line, ScreenList, numberOf, isMemory, World, Call, Read8088, Store8088, ReadZ80, StoreZ80, ReadShadow, WriteShadow, WritePort, VerticalTick, WatchdogTick, Draw, StoreWithPicture, DrawForViewers, StoreForViewers, Ask, GlyphPart, DrawLine, ListLines, Explain, after, answer}
+use Rattle.runs.specs.World.{Memory, Shared, Private, Screen, Attribute, Glyphs, Nvm, Shadow, Picture, Line, ScreenList, Index, numberOf, isMemory, World, Call, Read8088, Store8088, ReadZ80, StoreZ80, ReadShadow, WriteShadow, WritePort, VerticalTick, WatchdogTick, Draw, StoreWithPicture, IndexReaders, StoreWithIndex, DrawForViewers, StoreForViewers, StoreWithIndexForViewers, Ask, GlyphPart, DrawLine, ListLines, Explain, after, answer}
 
 -- a part of the world: the machine, the bit of it by which the Z80 runs, whether the 8088 is in reset, shared memory
 -- below 0800 and from there on, the viewers, or all of a memory
@@ -89,12 +89,22 @@ reach Draw =
 reach (StoreWithPicture address byte) =
     reaches (Picture ∷ memories8088) (TheMachine ∷ AllOf Screen ∷ AllOf Attribute ∷ AllOf Picture ∷ [])
     (AllOf Picture ∷ storedAt (seen8088 address))
+reach IndexReaders =
+    reaches (Screen ∷ Attribute ∷ Index ∷ []) (TheMachine ∷ AllOf Screen ∷ AllOf Attribute ∷ []) (AllOf Index ∷ [])
+reach (StoreWithIndex address byte) =
+    reaches (Picture ∷ Index ∷ memories8088)
+    (TheMachine ∷ AllOf Screen ∷ AllOf Attribute ∷ AllOf Picture ∷ AllOf Index ∷ [])
+    (AllOf Picture ∷ AllOf Index ∷ storedAt (seen8088 address))
 reach DrawForViewers =
     reaches (Screen ∷ Attribute ∷ Picture ∷ []) (TheMachine ∷ AllOf Screen ∷ AllOf Attribute ∷ [])
     (TheViewers ∷ AllOf Picture ∷ [])
 reach (StoreForViewers address byte) =
     reaches (Picture ∷ memories8088) (TheMachine ∷ AllOf Screen ∷ AllOf Attribute ∷ AllOf Picture ∷ [])
     (TheViewers ∷ AllOf Picture ∷ storedAt (seen8088 address))
+reach (StoreWithIndexForViewers address byte) =
+    reaches (Picture ∷ Index ∷ memories8088)
+    (TheMachine ∷ AllOf Screen ∷ AllOf Attribute ∷ AllOf Picture ∷ AllOf Index ∷ [])
+    (TheViewers ∷ AllOf Picture ∷ AllOf Index ∷ storedAt (seen8088 address))
 reach (Ask viewer) = reaches [] (TheViewers ∷ []) (TheViewers ∷ [])
 reach (GlyphPart code) = reaches (Glyphs ∷ []) (AllOf Glyphs ∷ []) []
 reach (DrawLine row scan) =

@@ -2,7 +2,7 @@
 -- it is told, has the kept picture. This is what a tablet in the office does.
 use Prim.Native.Nat.{ℕ, _<_}
 use mathlib.Core.Path.{_≡_}
-use mathlib.Core.List.{List, [], _∷_}
+use mathlib.Core.List.{List, [], _∷_, _++_}
 use mathlib.Core.Bool.{Bool, true, not, cond, _&&_, _||_}
 use lib.ListN.{length, getD}
 use Rattle.lent.specs.Lengths.{pictureBytes}
@@ -12,9 +12,9 @@ use Rattle.picture.specs.Picture.{pictureOf, inOrder, recordIn}
 use Rattle.picture.specs.Draw.{chainOf}
 use Rattle.marks.specs.Marks.{bitSet}
 use Rattle.viewers.specs.Viewers.{viewers, start}
-use Rattle.runs.specs.World.{Screen, Attribute, Picture, World, Call, DrawForViewers, Ask, after, answer}
+use Rattle.runs.specs.World.{Screen, Attribute, Picture, World, Call, IndexReaders, DrawForViewers, Ask, answer}
 use Rattle.runs.specs.Reach.{TheViewers, AllOf, mayChange}
-use Rattle.runs.specs.Kept.{Step, Made, stepped, sameColumns, Serving, playedAll, allInRuns}
+use Rattle.runs.specs.Kept.{Step, Made, stepped, sameColumns, Serving, Keeps, redrawn, playedAll, allInRuns}
 use Rattle.runs.specs.Stopped.{callOf, answerOf, steppedAll}
 use Rattle.runs.specs.Viewers.{eventOf, isAskOf}
 
@@ -50,23 +50,31 @@ RepaintsRight =
     → let last = steppedAll steps w in
     copied viewer (Made (Ask viewer)) last (copiedAll viewer steps w copy) ≡ last .bytes Picture
 
--- a run with the drawings written out that are made "at once after each change of column setting"
-abbrev pub withRedraws : List Step → World → List Step
-withRedraws [] w = []
-withRedraws (step ∷ steps) w =
-    let new = stepped step w in
-    let quiet = step ∷ withRedraws steps new in
-    let redrawn = step ∷ Made DrawForViewers ∷ withRedraws steps (after DrawForViewers new) in
-    cond (sameColumns w new) quiet redrawn
+-- a caller who redraws with the drawing that serves viewers, and keeps an index too or none
+abbrev pub serving : (indexed : Bool) → Keeps
+serving indexed = record { drawing = Serving; indexed = indexed }
 
--- So, with the owner's third demand, it has the picture drawn afresh: from a drawing that serves viewers, and with such a
--- drawing at once after each change of the column setting
+-- the calls with which it redraws
+abbrev pub redraws : (indexed : Bool) → List Step
+redraws indexed = Made DrawForViewers ∷ cond indexed (Made IndexReaders ∷ []) []
+
+-- a run with the drawings written out that are made "at once after each change of column setting"
+abbrev pub withRedraws : (indexed : Bool) → List Step → World → List Step
+withRedraws indexed [] w = []
+withRedraws indexed (step ∷ steps) w =
+    let new = stepped step w in
+    let quiet = step ∷ withRedraws indexed steps new in
+    let noisy = step ∷ (redraws indexed ++ withRedraws indexed steps (redrawn (serving indexed) new)) in
+    cond (sameColumns w new) quiet noisy
+
+-- So, with the owner's third demand, it has the picture drawn afresh: from a drawing that serves viewers, and with such
+-- a drawing at once after each change of the column setting, where an index is kept too or none
 abbrev pub RepaintsFresh : Type 0
 RepaintsFresh =
-    (viewer : ℕ) (steps : List Step) (w : World) (copy : List ℕ) → viewer < viewers
+    (indexed : Bool) (viewer : ℕ) (steps : List Step) (w : World) (copy : List ℕ) → viewer < viewers
     → answer DrawForViewers w .refusal ≡ accepted
-    → let begun = after DrawForViewers w in
-    let last = playedAll Serving steps begun in
-    allInRuns Serving steps begun ≡ true → allServe steps ≡ true
-    → copied viewer (Made (Ask viewer)) last (copiedAll viewer (withRedraws steps begun) begun copy)
+    → let begun = redrawn (serving indexed) w in
+    let last = playedAll (serving indexed) steps begun in
+    allInRuns (serving indexed) steps begun ≡ true → allServe steps ≡ true
+    → copied viewer (Made (Ask viewer)) last (copiedAll viewer (withRedraws indexed steps begun) begun copy)
     ≡ pictureOf (chainOf (last .machine) (last .bytes Screen) (last .bytes Attribute))

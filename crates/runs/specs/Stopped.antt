@@ -8,7 +8,7 @@ use lib.Dec.{eqb}
 use Rattle.lent.specs.Refusals.{lengthRefused, z80HeldRefused, inResetRefused}
 use Rattle.machine.specs.Settings.{z80Runs}
 use Rattle.machine.specs.declared.Machine.{Machine}
-use Rattle.runs.specs.World.{World, Call, Read8088, Store8088, ReadZ80, StoreZ80, ReadShadow, WriteShadow, WritePort, VerticalTick, WatchdogTick, Draw, StoreWithPicture, DrawForViewers, StoreForViewers, Ask, GlyphPart, DrawLine, ListLines, Explain, Answer, answer}
+use Rattle.runs.specs.World.{World, Call, Read8088, Store8088, ReadZ80, StoreZ80, ReadShadow, WriteShadow, WritePort, VerticalTick, WatchdogTick, Draw, StoreWithPicture, IndexReaders, StoreWithIndex, DrawForViewers, StoreForViewers, StoreWithIndexForViewers, Ask, GlyphPart, DrawLine, ListLines, Explain, Answer, answer}
 use Rattle.runs.specs.Z80.{isZ80}
 use Rattle.runs.specs.Kept.{Step, Made, Lending, lending, stepped}
 
@@ -22,6 +22,8 @@ is8088 (Read8088 address) = true
 is8088 (Store8088 address byte) = true
 is8088 (StoreWithPicture address byte) = true
 is8088 (StoreForViewers address byte) = true
+is8088 (StoreWithIndex address byte) = true
+is8088 (StoreWithIndexForViewers address byte) = true
 is8088 (ReadShadow place) = true
 is8088 (WriteShadow place value) = true
 is8088 (WritePort port code) = true
@@ -31,6 +33,7 @@ is8088 VerticalTick = false
 is8088 WatchdogTick = false
 is8088 Draw = false
 is8088 DrawForViewers = false
+is8088 IndexReaders = false
 is8088 (Ask viewer) = false
 is8088 (GlyphPart code) = false
 is8088 (DrawLine row scan) = false

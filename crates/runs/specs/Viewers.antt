@@ -9,7 +9,7 @@ use Rattle.lent.specs.Refusals.{accepted, refuses}
 use Rattle.chain.specs.Chain.{rows}
 use Rattle.marks.specs.Marks.{bitSet, marksTo}
 use Rattle.viewers.specs.Viewers.{viewers, start}
-use Rattle.runs.specs.World.{World, Call, Read8088, Store8088, ReadZ80, StoreZ80, ReadShadow, WriteShadow, WritePort, VerticalTick, WatchdogTick, Draw, StoreWithPicture, DrawForViewers, StoreForViewers, Ask, GlyphPart, DrawLine, ListLines, Explain, Answer, answered, answer}
+use Rattle.runs.specs.World.{World, Call, Read8088, Store8088, ReadZ80, StoreZ80, ReadShadow, WriteShadow, WritePort, VerticalTick, WatchdogTick, Draw, StoreWithPicture, IndexReaders, StoreWithIndex, DrawForViewers, StoreForViewers, StoreWithIndexForViewers, Ask, GlyphPart, DrawLine, ListLines, Explain, Answer, answered, answer}
 use Rattle.runs.specs.Kept.{Step, stepped}
 use Rattle.runs.specs.Stopped.{callOf, answerOf, steppedAll}
 
@@ -26,6 +26,7 @@ pub data Event : Type 0 where
 abbrev pub eventOf : Call → (numbers : List ℕ) → Event
 eventOf DrawForViewers numbers = DrawnAfresh
 eventOf (StoreForViewers address byte) numbers = Marked (getD numbers 0 0)
+eventOf (StoreWithIndexForViewers address byte) numbers = Marked (getD numbers 0 0)
 eventOf (Ask viewer) numbers = Asked viewer
 eventOf (Read8088 address) numbers = Nothing
 eventOf (Store8088 address byte) numbers = Nothing
@@ -38,6 +39,8 @@ eventOf VerticalTick numbers = Nothing
 eventOf WatchdogTick numbers = Nothing
 eventOf Draw numbers = Nothing
 eventOf (StoreWithPicture address byte) numbers = Nothing
+eventOf IndexReaders numbers = Nothing
+eventOf (StoreWithIndex address byte) numbers = Nothing
 eventOf (GlyphPart code) numbers = Nothing
 eventOf (DrawLine row scan) numbers = Nothing
 eventOf ListLines numbers = Nothing

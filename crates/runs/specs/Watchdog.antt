@@ -8,7 +8,7 @@ use Rattle.lent.specs.Refusals.{refuses}
 use Rattle.machine.specs.Power.{powerUp}
 use Rattle.machine.specs.Settings.{bit}
 use Rattle.machine.specs.Watchdog.{watchTicks}
-use Rattle.runs.specs.World.{World, Call, Read8088, Store8088, ReadZ80, StoreZ80, ReadShadow, WriteShadow, WritePort, VerticalTick, WatchdogTick, Draw, StoreWithPicture, DrawForViewers, StoreForViewers, Ask, GlyphPart, DrawLine, ListLines, Explain}
+use Rattle.runs.specs.World.{World, Call, Read8088, Store8088, ReadZ80, StoreZ80, ReadShadow, WriteShadow, WritePort, VerticalTick, WatchdogTick, Draw, StoreWithPicture, IndexReaders, StoreWithIndex, DrawForViewers, StoreForViewers, StoreWithIndexForViewers, Ask, GlyphPart, DrawLine, ListLines, Explain}
 use Rattle.runs.specs.Kept.{Step, stepped}
 use Rattle.runs.specs.Stopped.{callOf, answerOf, steppedAll}
 
@@ -26,6 +26,8 @@ eventOf (Read8088 address) = Nothing
 eventOf (Store8088 address byte) = Nothing
 eventOf (StoreWithPicture address byte) = Nothing
 eventOf (StoreForViewers address byte) = Nothing
+eventOf (StoreWithIndex address byte) = Nothing
+eventOf (StoreWithIndexForViewers address byte) = Nothing
 eventOf (ReadZ80 address) = Nothing
 eventOf (StoreZ80 address byte) = Nothing
 eventOf (ReadShadow place) = Nothing
@@ -33,6 +35,7 @@ eventOf (WriteShadow place value) = Nothing
 eventOf VerticalTick = Nothing
 eventOf Draw = Nothing
 eventOf DrawForViewers = Nothing
+eventOf IndexReaders = Nothing
 eventOf (Ask viewer) = Nothing
 eventOf (GlyphPart code) = Nothing
 eventOf (DrawLine row scan) = Nothing

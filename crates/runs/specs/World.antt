@@ -15,8 +15,10 @@ use Rattle.ports.specs.Ports.{writePort}
 use Rattle.picture.specs.Draw.{draw}
 use Rattle.picture.specs.declared.Drawn.{Drawn}
 use Rattle.mending.specs.Store.{storeWithPicture}
+use Rattle.index.specs.Index.{indexReaders}
+use Rattle.index.specs.Store.{storeWithIndex}
 use Rattle.viewers.specs.Viewers.{ask}
-use Rattle.viewers.specs.Serving.{drawForViewers, storeForViewers}
+use Rattle.viewers.specs.Serving.{drawForViewers, storeForViewers, storeWithIndexForViewers}
 use Rattle.viewers.specs.declared.Viewers.{Viewers}
 use Rattle.glyphs.specs.Glyphs.{glyphPart, partRefusal}
 use Rattle.scan_line.specs.Call.{drawLine}
@@ -37,6 +39,7 @@ pub data Memory : Type 0 where
   Picture : Memory
   Line : Memory
   ScreenList : Memory
+  Index : Memory
 
 -- which one it is in that list, by which two are told apart
 abbrev pub numberOf : Memory → ℕ
@@ -50,6 +53,7 @@ numberOf Shadow = 6
 numberOf Picture = 7
 numberOf Line = 8
 numberOf ScreenList = 9
+numberOf Index = 10
 
 abbrev pub isMemory : (one other : Memory) → Bool
 isMemory one other = eqb (numberOf one) (numberOf other)
@@ -88,8 +92,11 @@ pub data Call : Type 0 where
   WatchdogTick : Call
   Draw : Call
   StoreWithPicture : (address byte : ℕ) → Call
+  IndexReaders : Call
+  StoreWithIndex : (address byte : ℕ) → Call
   DrawForViewers : Call
   StoreForViewers : (address byte : ℕ) → Call
+  StoreWithIndexForViewers : (address byte : ℕ) → Call
   Ask : (viewer : ℕ) → Call
   GlyphPart : (code : ℕ) → Call
   DrawLine : (row scan : ℕ) → Call
@@ -157,6 +164,17 @@ outcome (StoreWithPicture address byte) w =
     leaving (answered (left .answer .refusal) (left .answer .marks ∷ []))
     (withBytes Shared (left .shared)
     (withBytes Screen (left .screen) (withBytes Attribute (left .attribute) (withBytes Picture (left .picture) w))))
+outcome IndexReaders w =
+    let left = indexReaders (w .machine) (w .bytes Screen) (w .bytes Attribute) (w .bytes Index) in
+    leaving (answered (left .refusal) []) (withBytes Index (left .index) w)
+outcome (StoreWithIndex address byte) w =
+    let left =
+    storeWithIndex (w .machine)
+    (w .bytes Shared) (w .bytes Screen) (w .bytes Attribute) (w .bytes Picture) (w .bytes Index) address byte in
+    leaving (answered (left .answer .refusal) (left .answer .marks ∷ []))
+    (withBytes Shared (left .shared)
+    (withBytes Screen (left .screen)
+    (withBytes Attribute (left .attribute) (withBytes Picture (left .picture) (withBytes Index (left .index) w)))))
 outcome DrawForViewers w =
     let left = drawForViewers (w .machine) (w .viewers) (w .bytes Screen) (w .bytes Attribute) (w .bytes Picture) in
     leaving (drawnAnswer (left .answer .drawn))
@@ -169,6 +187,15 @@ outcome (StoreForViewers address byte) w =
     (withViewers (left .answer .viewers)
     (withBytes Shared (left .shared)
     (withBytes Screen (left .screen) (withBytes Attribute (left .attribute) (withBytes Picture (left .picture) w)))))
+outcome (StoreWithIndexForViewers address byte) w =
+    let left =
+    storeWithIndexForViewers (w .machine) (w .viewers)
+    (w .bytes Shared) (w .bytes Screen) (w .bytes Attribute) (w .bytes Picture) (w .bytes Index) address byte in
+    leaving (answered (left .answer .stored .refusal) (left .answer .stored .marks ∷ []))
+    (withViewers (left .answer .viewers)
+    (withBytes Shared (left .shared)
+    (withBytes Screen (left .screen)
+    (withBytes Attribute (left .attribute) (withBytes Picture (left .picture) (withBytes Index (left .index) w))))))
 outcome (Ask viewer) w =
     let asked = ask (w .viewers) viewer in
     leaving (answered (asked .refusal) (asked .marks ∷ [])) (withViewers (asked .viewers) w)

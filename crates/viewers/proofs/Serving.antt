@@ -1,4 +1,4 @@
--- What the two calls make of the answer of the call that they hand on.
+-- What the calls that serve viewers make of the answer of the call that they hand on.
 use Prim.Native.Nat.{ℕ}
 use mathlib.Core.Path.{_≡_, refl, ap, _∙_}
 use mathlib.Core.List.{List}
@@ -9,8 +9,10 @@ use Rattle.picture.specs.Draw.{DrawnPicture, drawn, draw}
 use Rattle.picture.specs.declared.Drawn.{Drawn}
 use Rattle.mending.specs.Store.{StoredWithPicture, storedWithPicture, storeWithPicture}
 use Rattle.mending.specs.declared.Stored.{Stored}
-use Rattle.viewers.specs.Viewers.{start, added}
-use Rattle.viewers.specs.Serving.{DrawnServing, drawnServing, drawForViewers, StoredServing, storedServing, storeForViewers}
+use Rattle.index.specs.Store.{StoredWithIndex, storedWithIndex, storeWithIndex}
+use Rattle.viewers.specs.Viewers.{start}
+use Rattle.viewers.specs.Serving.{DrawnServing, drawnServing, drawForViewers, served, StoredServing, storedServing, storeForViewers, StoredServingIndex, storedServingIndex, storeWithIndexForViewers}
+use Rattle.viewers.specs.declared.StoredForViewers.{StoredForViewers}
 use Rattle.viewers.specs.declared.Viewers.{Viewers}
 
 -- the viewers by whether the drawing was refused
@@ -27,13 +29,23 @@ serves-drawing m v screen attribute picture {answer} {new} refused r l e =
 
 pub serves-store :
     (m : Machine) (v : Viewers) (shared screen attribute picture : List ℕ) (address byte : ℕ)
-    {answer : Stored} {shared′ screen′ attribute′ picture′ : List ℕ} {left : Viewers} → left ≡ added v (answer .marks)
+    {answer : Stored} {shared′ screen′ attribute′ picture′ : List ℕ} {left : StoredForViewers} → left ≡ served v answer
     → storedWithPicture answer shared′ screen′ attribute′ picture′ ≡ storeWithPicture m shared screen attribute picture address byte
-    → storedServing (record { stored = answer; viewers = left }) shared′ screen′ attribute′ picture′
-    ≡ storeForViewers m v shared screen attribute picture address byte
+    → storedServing left shared′ screen′ attribute′ picture′ ≡ storeForViewers m v shared screen attribute picture address byte
 serves-store m v shared screen attribute picture address byte l e = rw l refl ∙ ap serving e
   where
     serving : StoredWithPicture → StoredServing
+    serving one = storedServing (served v (one .answer)) (one .shared) (one .screen) (one .attribute) (one .picture)
+
+pub serves-store-with-index :
+    (m : Machine) (v : Viewers) (shared screen attribute picture index : List ℕ) (address byte : ℕ)
+    {answer : Stored} {shared′ screen′ attribute′ picture′ index′ : List ℕ} {left : StoredForViewers} → left ≡ served v answer
+    → storedWithIndex answer shared′ screen′ attribute′ picture′ index′
+    ≡ storeWithIndex m shared screen attribute picture index address byte
+    → storedServingIndex left shared′ screen′ attribute′ picture′ index′
+    ≡ storeWithIndexForViewers m v shared screen attribute picture index address byte
+serves-store-with-index m v shared screen attribute picture index address byte l e = rw l refl ∙ ap serving e
+  where
+    serving : StoredWithIndex → StoredServingIndex
     serving one =
-        storedServing (record { stored = one .answer; viewers = added v (one .answer .marks) })
-        (one .shared) (one .screen) (one .attribute) (one .picture)
+        storedServingIndex (served v (one .answer)) (one .shared) (one .screen) (one .attribute) (one .picture) (one .index)

@@ -1,8 +1,9 @@
-// The eight viewers of one screen: the marks that wait for each, and the store and the drawing that serve them.
-// Document 02, ticket 7.
+// The eight viewers of one screen: the marks that wait for each, and the stores and the drawing that serve
+// them. Document 02, ticket 7, and ticket 8 for the store with an index.
 ghost use mathlib.Core.Path.{_≡_};
 ghost use Rattle.viewers.specs.Viewers.{start, added, ask};
 ghost use Rattle.viewers.specs.Serving.{drawnServing, drawForViewers, storedServing, storeForViewers};
+ghost use Rattle.viewers.specs.Serving.{served, storedServingIndex, storeWithIndexForViewers};
 use machine::Machine;
 use mending::Stored;
 use picture::Drawn;
@@ -64,6 +65,17 @@ impl Viewers {
         Viewers { waiting }
     }
 
+    // The answer of a store that serves viewers: its own, and its marks added to those of every viewer. A store that is
+    // refused has no marks to add.
+    fn serve(self, stored: Stored) -> StoredForViewers
+        ensures { λ r. ⌜ r ≡ served self stored ⌝ }
+    {
+        StoredForViewers {
+            stored,
+            viewers: self.add(stored.marks),
+        }
+    }
+
     // Hands a viewer the marks that wait for it, and clears them.
     pub fn ask(self, viewer: usize) -> Asked
         ensures { λ r. ⌜ r ≡ ask self viewer ⌝ }
@@ -107,8 +119,7 @@ pub fn draw_for_viewers(
     }
 }
 
-// Stores a byte as the 8088 does, mends the picture, and adds the marks to those of every viewer. A store that is
-// refused has no marks to add.
+// Stores a byte as the 8088 does, mends the picture, and adds the marks to those of every viewer.
 pub fn store_for_viewers(
     machine: Machine,
     viewers: Viewers,
@@ -133,8 +144,54 @@ pub fn store_for_viewers(
         address,
         byte,
     );
-    StoredForViewers {
-        stored,
-        viewers: viewers.add(stored.marks),
+    viewers.serve(stored)
+}
+
+// The same store with an index lent. Its steps are those of `index::store_with_index`, so that here too little is done
+// for a byte that no row reads.
+pub fn store_with_index_for_viewers(
+    machine: Machine,
+    viewers: Viewers,
+    shared: &mut [u8],
+    screen: &mut [u8],
+    attribute: &mut [u8],
+    picture: &mut [u8],
+    index: &mut [u8],
+    address: u32,
+    byte: u8,
+) -> StoredForViewers
+    ensures { λ r. ⌜ storedServingIndex r
+        (now (shared .exit)) (now (screen .exit)) (now (attribute .exit)) (now (picture .exit)) (now (index .exit))
+        ≡ storeWithIndexForViewers machine viewers
+        (now (shared .entry)) (now (screen .entry)) (now (attribute .entry)) (now (picture .entry)) (now (index .entry))
+        address byte ⌝ }
+{
+    let named = index::store_named(
+        machine,
+        shared,
+        screen,
+        attribute,
+        picture,
+        index,
+        address,
+        byte,
+    );
+    if named.first >= chain::ROWS {
+        return viewers.serve(Stored {
+            refusal: named.refusal,
+            marks: 0,
+        });
     }
+    let marks = index::mend_both(
+        machine.columns(),
+        screen,
+        attribute,
+        named.first,
+        picture,
+        index,
+    );
+    viewers.serve(Stored {
+        refusal: lent::ACCEPTED,
+        marks,
+    })
 }

@@ -21,8 +21,9 @@ fn help() {
     println!("chosen by the seed S, and compares each with a model of documents 01 and 02. Ahead of them come the");
     println!("lists of the whole screen with every one or two runs of rows that scroll, and some millions of ticks of");
     println!("the watchdog's clock, with codes between them; after them every cell of some hundred screens is");
-    println!("explained, at both settings, and stored into, and some hundred long runs are made in which eight viewers");
-    println!("ask; fewer of all these if N is under 1000000.");
+    println!("explained, at both settings, and stored into, some hundred long runs are made in which eight viewers");
+    println!("ask, and some in which an index is kept, and bytes are stored with an index, true and untrue, into");
+    println!("every place of some screens; fewer of all these if N is under 1000000.");
     println!("LIBRARY is a librainbow.so, or run: and a command that serves its calls, as host/serve.c does.");
     println!("--against: makes each call of a second library too, and compares it with the first.");
     println!("Exit status: 0 no difference, 1 a difference, whose shortest script is printed, 2 bad arguments.");
@@ -83,41 +84,42 @@ fn opened(name: &str) -> &'static Library {
 
 fn print_tally(tally: &Tally, seconds: f64) {
     for (name, calls) in FUNCTIONS.iter().zip(tally.calls) {
-        println!("{name:<20}{calls:>9}");
+        println!("{name:<29}{calls:>9}");
     }
     println!(
-        "{:<20}{:>9} in {seconds:.1} s",
+        "{:<29}{:>9} in {seconds:.1} s",
         "all the same",
         tally.total()
     );
     for (number, calls) in tally.refusals.iter().enumerate().skip(1) {
-        println!("refused by {number:<9}{calls:>9}");
+        println!("refused by {number:<18}{calls:>9}");
     }
-    println!("{:<20}{:>9}", "Z80: answered", tally.z80[0]);
+    println!("{:<29}{:>9}", "Z80: answered", tally.z80[0]);
     for number in [1, 7] {
-        println!("Z80: refused by {number:<4}{:>9}", tally.z80[number]);
+        println!("Z80: refused by {number:<13}{:>9}", tally.z80[number]);
     }
     let watched = &tally.watched;
-    println!("{:<20}{:>9}", "watchdog: ticks", watched.ticks);
-    println!("{:<20}{:>9}", "resets begun", watched.begun);
-    println!("{:<20}{:>9}", "resets ended", watched.ended);
+    println!("{:<29}{:>9}", "watchdog: ticks", watched.ticks);
+    println!("{:<29}{:>9}", "resets begun", watched.begun);
+    println!("{:<29}{:>9}", "resets ended", watched.ended);
     let (drawings, last) = (&tally.drawings, ROWS - 1);
     let middle = format!("wild: row 1 to {}", last - 1);
-    println!("{:<20}{:>9}", "wild: row 0", drawings[0]);
-    println!("{middle:<20}{:>9}", drawings[1..last].iter().sum::<u64>());
-    println!("wild: row {last:<10}{:>9}", drawings[last]);
-    println!("{:<20}{:>9}", "wild: no row", drawings[ROWS]);
+    println!("{:<29}{:>9}", "wild: row 0", drawings[0]);
+    println!("{middle:<29}{:>9}", drawings[1..last].iter().sum::<u64>());
+    println!("wild: row {last:<19}{:>9}", drawings[last]);
+    println!("{:<29}{:>9}", "wild: no row", drawings[ROWS]);
     let [at_rest, scrolled] = tally.lists;
-    println!("{:<20}{at_rest:>9}", "lists: at rest");
-    println!("{:<20}{scrolled:>9}", "lists: scrolled");
+    println!("{:<29}{at_rest:>9}", "lists: at rest");
+    println!("{:<29}{scrolled:>9}", "lists: scrolled");
     print_explained(tally);
     print_told(tally);
+    print_indexed(tally);
 }
 
 fn print_explained(tally: &Tally) {
     let answers = ["refused", "cell", "fill", "past", "dark"];
     for (answer, times) in answers.into_iter().zip(tally.explained) {
-        println!("explained: {answer:<9}{times:>9}");
+        println!("explained: {answer:<18}{times:>9}");
     }
     let promises = &tally.promises;
     for (name, times) in [
@@ -152,15 +154,34 @@ fn print_told(tally: &Tally) {
     }
 }
 
-/// What was not tried: the desk's promise, stores for which there is none, or something of the viewers.
+fn print_indexed(tally: &Tally) {
+    let names = [
+        "stores with a true index that names a row",
+        "stores with a true index that names none",
+        "stores with another index that names a row",
+        "stores with another index that names none",
+        "a kept index beside a fresh one",
+        "a store with a true index beside one without",
+    ];
+    for (name, times) in names.into_iter().zip(tally.indexed.counts()) {
+        println!("{name:<48}{times:>9}");
+    }
+}
+
+/// What was not tried: the desk's promise, stores for which there is none, or something of the viewers or of the index.
 fn untried(tally: &Tally) -> Option<&'static str> {
     let promises = &tally.promises;
     if promises.tried == 0 || promises.read_earlier == 0 {
         return Some("the place of a cell was never stored into, with and without an earlier row that reads it");
     }
-    let told = tally.told.counts().contains(&0);
-    told.then_some(
-        "a viewer was never handed rows, or none, or its copy or its answers were never compared",
+    if tally.told.counts().contains(&0) {
+        return Some(
+            "a viewer was never handed rows, or none, or its copy or its answers were never compared",
+        );
+    }
+    let indexed = tally.indexed.counts().contains(&0);
+    indexed.then_some(
+        "an index, true or not, never named a row, or none, or one that was kept was never compared",
     )
 }
 

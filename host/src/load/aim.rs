@@ -2,6 +2,7 @@
 use super::model::Model;
 use crate::chain::{capacity, COUNT_AT, DARK, KIND_AT, PAIRS, PLACES, RECORD, ROWS, TORN};
 use crate::hard::Chance;
+use crate::index::INDEX;
 
 pub const EDGES: [u32; 20] = [
     0x0, 0x1, 0x7FF, 0x800, 0xFFFE, 0xFFFF, 0x10000, 0x1FFFF, 0xEDFFF, 0xEE000, 0xEE001, 0xEEFFF,
@@ -89,6 +90,33 @@ pub fn store(chance: &mut Chance, model: &Model) -> (u32, u8) {
         }
     }
     let address = address(chance, model);
+    (address, byte_for(chance, model, address))
+}
+
+/// The same with an index: most often a byte of a row, but now and then by the index as it is, whose entry names a row,
+/// or none, or stands beside the first of such.
+pub fn store_with_index(chance: &mut Chance, model: &Model) -> (u32, u8) {
+    if chance.below(3) > 0 {
+        return store(chance, model);
+    }
+    let (from, named) = (chance.below(INDEX), chance.below(2) == 0);
+    let mut entries = (0..INDEX).map(|further| (from + further) % INDEX);
+    let names_a_row = |entry: usize| usize::from(model.index[entry]) < ROWS;
+    let found = entries.find(|entry| names_a_row(*entry) == named);
+    let beside = chance.of(&[0, 0, 1, 2, INDEX - 1]);
+    let entry = (found.unwrap_or(from) + beside) % INDEX;
+    let address = SCREEN + entry as u32;
+    (address, byte_for(chance, model, address))
+}
+
+/// Where the index has the entry of the byte at an address. A byte of shared memory has none.
+pub fn entry_at(address: u32) -> Option<usize> {
+    let entry = address.checked_sub(SCREEN)? as usize;
+    (entry < INDEX).then_some(entry)
+}
+
+/// A byte to store at an address: often the one that is there, or one that differs from it in few bits.
+pub fn byte_for(chance: &mut Chance, model: &Model, address: u32) -> u8 {
     let place = (address & 0xFFF) as usize;
     let old = match address >> 12 {
         0xEE => model.view.screen[place],
@@ -107,9 +135,9 @@ pub fn store(chance: &mut Chance, model: &Model) -> (u32, u8) {
     // the first whose links are wild.
     let ends = model.view.screen[(place + PLACES - 2) % PLACES] == 0xFF;
     if address >> 12 == 0xEE && ends && byte != 0xFF && chance.below(4) > 0 {
-        return (address, byte & 0x0F);
+        return byte & 0x0F;
     }
-    (address, byte)
+    byte
 }
 
 /// A row and a column: most often those of a cell that the picture shows, or beside the end of the row or its capacity,

@@ -1,12 +1,13 @@
 //! The calls of include/rainbow.h, the buffers that they are lent, and lengths that differ from the list.
 use crate::chain::PICTURE;
 use crate::dots::{GLYPHS, LINE};
+use crate::index::INDEX;
 use crate::machine::Machine;
 use crate::memories::{ATTRIBUTE, NVM, PRIVATE, SCREEN, SHADOW, SHARED};
 use crate::rainbow::{Waiting, FUNCTIONS};
 use crate::screen::LIST;
 
-/// A lent buffer. `Spare` is a second picture, to draw afresh beside the kept one.
+/// A lent buffer. `Spare` is a second picture, to draw afresh beside the kept one, and `SpareIndex` a second index.
 #[derive(Clone, Copy, Debug, PartialEq, Eq)]
 pub enum Buffer {
     Shared,
@@ -19,10 +20,12 @@ pub enum Buffer {
     Picture,
     Line,
     List,
+    Index,
     Spare,
+    SpareIndex,
 }
 
-pub const BUFFERS: [Buffer; 11] = [
+pub const BUFFERS: [Buffer; 13] = [
     Buffer::Shared,
     Buffer::Private,
     Buffer::Screen,
@@ -33,7 +36,9 @@ pub const BUFFERS: [Buffer; 11] = [
     Buffer::Picture,
     Buffer::Line,
     Buffer::List,
+    Buffer::Index,
     Buffer::Spare,
+    Buffer::SpareIndex,
 ];
 
 impl Buffer {
@@ -49,11 +54,15 @@ impl Buffer {
             Self::Picture | Self::Spare => PICTURE,
             Self::Line => LINE,
             Self::List => LIST,
+            Self::Index | Self::SpareIndex => INDEX,
         }
     }
 
     pub fn name(self) -> String {
-        format!("{self:?}").to_lowercase()
+        match self {
+            Self::SpareIndex => "spare index".to_string(),
+            _ => format!("{self:?}").to_lowercase(),
+        }
     }
 }
 
@@ -106,7 +115,7 @@ impl Lengths {
     }
 }
 
-/// A call with its numbers. A watchdog tick is so many calls, one after the other. The last five are no calls but
+/// A call with its numbers. A watchdog tick is so many calls, one after the other. The last nine are no calls but
 /// changes that the caller makes by hand.
 #[derive(Clone, Copy, Debug, PartialEq, Eq)]
 pub enum Call {
@@ -139,11 +148,19 @@ pub enum Call {
     Ask { viewer: usize },
     DrawForViewers,
     StoreForViewers { address: u32, byte: u8 },
+    IndexReaders,
+    IndexAfresh,
+    StoreWithIndex { address: u32, byte: u8 },
+    StoreWithIndexForViewers { address: u32, byte: u8 },
     SetMachine(Machine),
     SetViewers(Waiting),
     AlterPicture { place: usize, byte: u8 },
     StrewPicture { seed: u64 },
     OtherPicture { seed: u64 },
+    AlterIndex { entry: usize, byte: u8 },
+    FillIndex { byte: u8 },
+    StrewIndex { seed: u64, under: usize },
+    OtherIndex { seed: u64 },
 }
 
 impl Call {
@@ -178,6 +195,9 @@ impl Call {
             Self::Ask { .. } => "ask",
             Self::DrawForViewers => "draw_for_viewers",
             Self::StoreForViewers { .. } => "store_for_viewers",
+            Self::IndexReaders | Self::IndexAfresh => "index_readers",
+            Self::StoreWithIndex { .. } => "store_with_index",
+            Self::StoreWithIndexForViewers { .. } => "store_with_index_for_viewers",
             _ => return None,
         };
         FUNCTIONS.iter().position(|known| *known == name)
@@ -203,7 +223,33 @@ impl Call {
                 | WriteShadow { .. }
                 | StoreWithPicture { .. }
                 | StoreForViewers { .. }
+                | StoreWithIndex { .. }
+                | StoreWithIndexForViewers { .. }
         )
+    }
+
+    /// Whether it is a store that mends a picture.
+    pub fn mends(&self) -> bool {
+        let without = matches!(
+            self,
+            Self::StoreWithPicture { .. } | Self::StoreForViewers { .. }
+        );
+        without || self.stores_with_index().is_some()
+    }
+
+    /// The address and the byte of a store with an index.
+    pub fn stores_with_index(&self) -> Option<(u32, u8)> {
+        match *self {
+            Self::StoreWithIndex { address, byte }
+            | Self::StoreWithIndexForViewers { address, byte } => Some((address, byte)),
+            _ => None,
+        }
+    }
+
+    /// Whether it is lent an index.
+    pub fn has_index(&self) -> bool {
+        let afresh = matches!(self, Self::IndexReaders | Self::IndexAfresh);
+        afresh || self.stores_with_index().is_some()
     }
 
     /// Whether viewers come back from it.
@@ -211,7 +257,11 @@ impl Call {
         use Call::*;
         matches!(
             self,
-            StartViewers | Ask { .. } | DrawForViewers | StoreForViewers { .. }
+            StartViewers
+                | Ask { .. }
+                | DrawForViewers
+                | StoreForViewers { .. }
+                | StoreWithIndexForViewers { .. }
         )
     }
 
@@ -227,6 +277,11 @@ impl Call {
             Self::DrawAfresh => &[Screen, Attribute, Spare],
             Self::StoreWithPicture { .. } | Self::StoreForViewers { .. } => {
                 &[Shared, Screen, Attribute, Picture]
+            }
+            Self::IndexReaders => &[Screen, Attribute, Index],
+            Self::IndexAfresh => &[Screen, Attribute, SpareIndex],
+            Self::StoreWithIndex { .. } | Self::StoreWithIndexForViewers { .. } => {
+                &[Shared, Screen, Attribute, Picture, Index]
             }
             Self::GlyphPart { .. } => &[Table],
             Self::ScanLine { .. } => &[Picture, Table, Line],

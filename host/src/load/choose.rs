@@ -1,11 +1,11 @@
 //! Chooses the next call, most often one that is hard to answer.
 use super::aim::{self, about};
+use super::by_hand;
 use super::call::{Call, Lent, Step, WRONG_LENGTHS};
 use super::model::Model;
 use super::sides::Sides;
 use super::watch_runs::{self, Manner, MANNERS};
-use super::world;
-use crate::chain::{PAIRS, PICTURE, ROWS};
+use crate::chain::{PAIRS, ROWS};
 use crate::dots::{SCANS, UNDERLINE_SCAN};
 use crate::hard::Chance;
 use crate::memories::SHADOW;
@@ -17,6 +17,8 @@ use crate::viewers::VIEWERS;
 pub enum Way {
     /// The picture is never left behind.
     True,
+    /// Nor is the index: the runs of demand 3 where an index is lent.
+    Indexed,
     Any,
     /// Most are the Z80's, with writes to port 0A and what the 8088 does meanwhile.
     Z80,
@@ -28,7 +30,8 @@ pub fn way(chance: &mut Chance) -> Way {
     match chance.below(16) {
         0 | 1 => Way::Z80,
         2 => Way::Watchdog(chance.of(&MANNERS)),
-        3..=9 => Way::True,
+        3..=6 => Way::True,
+        7..=9 => Way::Indexed,
         _ => Way::Any,
     }
 }
@@ -52,11 +55,17 @@ enum Choice {
     Explain,
     Ask,
     StoredForViewers,
+    StoredWithIndex,
+    StoredWithIndexForViewers,
 }
 
-const CHOICES: [(usize, Choice); 29] = [
-    (180, Choice::Stored),
-    (120, Choice::StoredForViewers),
+const CHOICES: [(usize, Choice); 33] = [
+    (120, Choice::Stored),
+    (80, Choice::StoredForViewers),
+    (120, Choice::StoredWithIndex),
+    (80, Choice::StoredWithIndexForViewers),
+    (30, Choice::Plain(Call::IndexReaders)),
+    (30, Choice::Plain(Call::IndexAfresh)),
     (90, Choice::Ask),
     (120, Choice::Port),
     (60, Choice::Read8088),
@@ -99,7 +108,7 @@ fn choice(chance: &mut Chance) -> Choice {
 }
 
 /// A write to a port: most often a port and a code of its list.
-fn port(chance: &mut Chance) -> Call {
+pub fn port(chance: &mut Chance) -> Call {
     let port = match chance.below(20) {
         0 => chance.below(0x10000) as u16,
         1 => chance.of(&[0x00, 0x03, 0x05, 0x0B, 0x0D, 0x104, 0x10A, 0x10B, 0x20C]),
@@ -134,21 +143,6 @@ fn about_the_z80(chance: &mut Chance) -> Call {
         3 => Call::Z80Runs,
         4..=6 => Call::ReadZ80 { address },
         _ => Call::StoreZ80 { address, byte },
-    }
-}
-
-/// A change by hand: of the machine, or one that makes the picture untrue.
-fn by_hand(chance: &mut Chance) -> Call {
-    let seed = chance.below(1 << 40) as u64 | 1;
-    match chance.below(10) {
-        0 => Call::StrewPicture { seed },
-        1 => Call::OtherPicture { seed },
-        2 | 3 => Call::SetMachine(world::machine(chance)),
-        4 | 5 => Call::SetViewers(world::viewers(chance)),
-        _ => Call::AlterPicture {
-            place: chance.below(PICTURE),
-            byte: chance.byte(),
-        },
     }
 }
 
@@ -204,6 +198,14 @@ fn call(chance: &mut Chance, model: &Model, choice: Choice) -> Call {
         Choice::StoredForViewers => {
             let (address, byte) = aim::store(chance, model);
             Call::StoreForViewers { address, byte }
+        }
+        Choice::StoredWithIndex => {
+            let (address, byte) = aim::store_with_index(chance, model);
+            Call::StoreWithIndex { address, byte }
+        }
+        Choice::StoredWithIndexForViewers => {
+            let (address, byte) = aim::store_with_index(chance, model);
+            Call::StoreWithIndexForViewers { address, byte }
         }
         Choice::Explain => explain(chance, model),
         Choice::ReadZ80 => Call::ReadZ80 {
@@ -263,22 +265,41 @@ fn numbered(chance: &mut Chance, choice: Choice) -> Call {
     }
 }
 
+/// In a true run a call that leaves the picture behind, or a kept index, is made another one; so is a store with an
+/// index that may be untrue.
+fn keeping(choice: Choice, sides: &Sides, way: Way) -> Choice {
+    let indexed = way == Way::Indexed;
+    match choice {
+        Choice::Store8088 => Choice::Plain(Call::DrawAfresh),
+        Choice::Stored if indexed => Choice::StoredWithIndex,
+        Choice::StoredForViewers if indexed => Choice::StoredWithIndexForViewers,
+        Choice::StoredWithIndex | Choice::StoredWithIndexForViewers if !sides.indexed.kept => {
+            Choice::Plain(Call::IndexReaders)
+        }
+        choice => choice,
+    }
+}
+
 /// The next step. In a true run the picture is never left behind: it is drawn first, and again as soon as the
-/// columns have changed.
+/// columns have changed; and so is the index, if one is kept.
 pub fn step(chance: &mut Chance, sides: &Sides, way: Way) -> Step {
-    let true_run = way == Way::True;
+    let indexed = way == Way::Indexed;
+    let true_run = way == Way::True || indexed;
     if true_run && !sides.kept {
         return chance.of(&[Call::Draw, Call::DrawForViewers]).into();
     }
+    if indexed && !sides.indexed.kept {
+        return Call::IndexReaders.into();
+    }
     if !true_run && chance.below(60) == 0 {
-        return by_hand(chance).into();
+        return by_hand::any(chance).into();
     }
     let machine = &sides.model.machine;
     // A cell was explained: the desk stores into the place that was named, and looks at the screen again.
     if sides.has_promise() {
         return Call::DrawAfresh.into();
     }
-    if let (Some(asked), 0) = (sides.asked, chance.below(2)) {
+    if let (Some(asked), 0, false) = (sides.asked, chance.below(2), indexed) {
         let (address, byte) = aim::other_byte(chance, &sides.model, asked.place);
         return Call::StoreWithPicture { address, byte }.into();
     }
@@ -294,9 +315,10 @@ pub fn step(chance: &mut Chance, sides: &Sides, way: Way) -> Step {
         }
         _ => {}
     }
-    let call = match choice(chance) {
-        Choice::Store8088 if true_run => Call::DrawAfresh,
-        choice => call(chance, &sides.model, choice),
+    let choice = match choice(chance) {
+        choice if true_run => keeping(choice, sides, way),
+        choice => choice,
     };
+    let call = call(chance, &sides.model, choice);
     lent(chance, call)
 }

@@ -69,7 +69,11 @@ impl Copies {
         self.served = match call {
             Call::StartViewers => true,
             Call::DrawForViewers if accepted => true,
-            Call::Draw | Call::StoreWithPicture { .. } if accepted => false,
+            Call::Draw | Call::StoreWithPicture { .. } | Call::StoreWithIndex { .. }
+                if accepted =>
+            {
+                false
+            }
             _ => self.served,
         };
     }
@@ -173,6 +177,7 @@ impl Quiet {
             Buffer::Screen,
             Buffer::Attribute,
             Buffer::Picture,
+            Buffer::Index,
         ] {
             if self.library.content(buffer) != loud.content(buffer) {
                 return Err(format!(
@@ -240,7 +245,8 @@ mod tests {
             address: 0,
             byte: 0,
         };
-        for call in [Call::Draw, store] {
+        let (address, byte) = (0, 0);
+        for call in [Call::Draw, store, Call::StoreWithIndex { address, byte }] {
             let mut copies = Copies::new();
             copies.after(&Call::DrawForViewers, &Seen::default());
             copies.after(&call, &Seen::refusal(1));

@@ -26,7 +26,7 @@ fn misplaced(list: &[u8]) -> Option<usize> {
 /// Looks at what a call answered and left.
 pub fn demands(library: &Library, before: Before, call: &Call, seen: &Seen) -> Result<(), String> {
     match call {
-        Call::StoreWithPicture { .. } | Call::StoreForViewers { .. } => {
+        _ if call.mends() => {
             marks_are_of_changes(before.picture, library.content(Buffer::Picture), seen.value)
         }
         Call::DrawAfresh if seen.refusal == 0 && before.kept => {

@@ -1,5 +1,6 @@
 //! Faults that are put into the tester, to see that it finds each of them and shrinks what found it.
 use super::call::{Buffer, Call};
+use super::index_fault;
 use super::library::Library;
 use super::list_fault;
 use super::model::Model;
@@ -40,6 +41,7 @@ impl Fault {
             (28, Call::ReadShadow { .. }) => out_of_reset(model, call),
             (33..=40, Call::ListLines) => list_fault::call(self.0, model),
             (51..=61, _) if call.has_viewers() => viewer_fault::call(self.0, model, call),
+            (index_fault::FIRST.., _) if call.has_index() => index_fault::call(self.0, model, call),
             (42..=48 | 50, Call::Explain { row, column }) => {
                 why_fault::call(self.0, model, *row, *column)
             }
@@ -109,6 +111,11 @@ impl Fault {
         true
     }
 
+    /// Whether the tester sees that the column setting has changed, so that the index has to be worked out again.
+    pub fn sees_moves(self) -> bool {
+        self.0 != index_fault::UNSEEN_MOVE
+    }
+
     /// Faults of the library's side, and some that both sides have.
     pub fn after(self, call: &Call, library: &mut Library, model: &mut Model) {
         let [picture, list] = [Buffer::Picture, Buffer::List].map(|buffer| buffer as usize);
@@ -134,6 +141,19 @@ impl Fault {
                 model.machine.count = 0;
             }
             _ => {}
+        }
+    }
+
+    /// A fault that both sides have in what a store with an index answers and leaves.
+    pub fn of_index(
+        self,
+        call: &Call,
+        answers: &mut [&mut Seen; 2],
+        library: &mut Library,
+        model: &mut Model,
+    ) {
+        if let (Some((address, _)), 0) = (call.stores_with_index(), answers[1].refusal) {
+            index_fault::on_both_sides(self.0, address, answers, library, model);
         }
     }
 
@@ -250,7 +270,7 @@ fn not_underlined(model: &mut Model, call: &Call) -> Seen {
     seen
 }
 
-fn first_row_only(model: &mut Model, call: &Call) -> Seen {
+pub fn first_row_only(model: &mut Model, call: &Call) -> Seen {
     let kept = model.picture.clone();
     let mut seen = model.right(call);
     if seen.value != 0 {

@@ -3,7 +3,7 @@ use super::call::{Buffer, Call, Lent, Step, BUFFERS};
 use super::model::Model;
 use super::seen::mirrored;
 use super::words::numbers;
-use crate::chain::RECORD;
+use crate::chain::{PLACES, RECORD};
 use crate::rainbow::{self, Request, Seen, Waiting};
 
 const GUARD: usize = 64;
@@ -142,6 +142,9 @@ impl Library {
         let part = match buffer {
             Buffer::Picture | Buffer::Spare => format!(" (row {:X})", place / RECORD),
             Buffer::List => format!(" (line {:X})", place / 2),
+            Buffer::Index | Buffer::SpareIndex if place >= PLACES => {
+                format!(" (attribute {:X})", place - PLACES)
+            }
             _ => String::new(),
         };
         Some(format!(

@@ -1,6 +1,7 @@
 //! Drives a library and the model of the documents with the same calls, and compares what each answers and every byte
 //! that each was lent.
 mod aim;
+mod by_hand;
 mod call;
 mod choose;
 mod copies;
@@ -8,6 +9,9 @@ mod demands;
 mod desk;
 mod fault;
 mod faults;
+mod index_fault;
+mod index_sweep;
+mod indexed;
 mod library;
 mod list_fault;
 mod list_sweep;
@@ -39,6 +43,7 @@ use crate::REFUSALS;
 use call::{Call, Step};
 use copies::Told;
 use desk::Promises;
+use indexed::Counts;
 use sides::Sides;
 use std::thread::spawn;
 use watch_runs::{Watched, MANNERS};
@@ -46,8 +51,8 @@ use world::World;
 
 /// How many calls there were of each function, how many were answered by each number of refusal, of all and of the
 /// Z80's, how many drawings named each row, how many lists there were of a screen at rest and of one that scrolls, how
-/// many cells were explained by each answer, how often the desk's promise was tried, what viewers were told, and what
-/// the watchdog did.
+/// many cells were explained by each answer, how often the desk's promise was tried, what viewers were told, what
+/// stores with an index there were, and what the watchdog did.
 #[derive(Default)]
 pub struct Tally {
     pub calls: [u64; FUNCTIONS.len()],
@@ -63,6 +68,7 @@ pub struct Tally {
     pub explained: [u64; 5],
     pub promises: Promises,
     pub told: Told,
+    pub indexed: Counts,
     pub watched: Watched,
 }
 
@@ -109,6 +115,7 @@ impl Tally {
         explained.for_each(|(sum, answers)| *sum += answers);
         self.promises.add(&other.promises);
         self.told.add(&other.told);
+        self.indexed.add(&other.indexed);
         self.watched.add(&other.watched);
     }
 }
@@ -158,6 +165,7 @@ impl<'a> Run<'a> {
         self.tally.watched.add(&self.sides.watched);
         self.tally.promises.add(&self.sides.promises);
         self.tally.told.add(&self.sides.copies.told);
+        self.tally.indexed.add(&self.sides.indexed.counts);
         Ok(())
     }
 
@@ -170,8 +178,8 @@ impl<'a> Run<'a> {
 /// As many run at once, each on buffers of its own, which the header allows.
 const THREADS: u64 = 2;
 
-/// Where fewer calls than these are asked for, there is less of the whole screen, of the watchdog, of the cells and of
-/// the viewers too: these alone take some millions.
+/// Where fewer calls than these are asked for, there is less of the whole screen, of the watchdog, of the cells, of the
+/// viewers and of the index too: these alone take some millions.
 const WHOLE: u64 = 1_000_000;
 
 /// The screens of which every cell is explained, at both settings, and of each thread at least.
@@ -182,11 +190,16 @@ const LEAST_SCREENS: usize = 4;
 const VIEWER_RUNS: usize = 400;
 const LEAST_VIEWER_RUNS: usize = 4;
 
+/// The long runs in which an index is kept, and of each thread at least.
+const INDEX_RUNS: usize = 100;
+const LEAST_INDEX_RUNS: usize = 4;
+
 /// The ticks of each long run of the watchdog.
 const RUN_TICKS: u64 = 250_000;
 
 /// Makes the calls of the sweeps and those of the watchdog, then calls by chance, then explains every cell of many
-/// screens, and then makes the long runs in which viewers ask. Of the first sweep and by chance there are so many.
+/// screens, and then makes the long runs in which viewers ask and those in which an index is kept, and stores into
+/// every place of some screens. Of the first sweep and by chance there are so many.
 pub fn load(calls: u64, seed: u64, tried: Tried) -> Result<Tally, Script> {
     let mut chance = Chance(seed);
     let mut tally = sweep_all(sweep::pieces(), &mut chance, tried)?;
@@ -205,6 +218,9 @@ pub fn load(calls: u64, seed: u64, tried: Tried) -> Result<Tally, Script> {
                 tally.add(&why_sweep::screens(screens, chance, tried)?);
                 let runs = (VIEWER_RUNS / THREADS as usize / every).max(LEAST_VIEWER_RUNS);
                 tally.add(&viewer_sweep::runs(runs, chance, tried)?);
+                let runs = (INDEX_RUNS / THREADS as usize / every).max(LEAST_INDEX_RUNS);
+                tally.add(&index_sweep::runs(runs, chance, tried)?);
+                tally.add(&index_sweep::screens(every, chance, tried)?);
                 Ok(tally)
             })
         })

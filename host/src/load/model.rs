@@ -5,6 +5,7 @@ use super::library::guard;
 use super::seen::{mirrored, seen, seen_drawn, seen_explained};
 use crate::chain::{self, Drawn, PICTURE};
 use crate::dots;
+use crate::index::{self, INDEX};
 use crate::machine::Machine;
 use crate::memories::{self, View8088};
 use crate::rainbow::{self, Seen};
@@ -22,7 +23,9 @@ pub struct Model {
     pub picture: Vec<u8>,
     pub line: Vec<u8>,
     pub list: Vec<u8>,
+    pub index: Vec<u8>,
     pub spare: Vec<u8>,
+    pub spare_index: Vec<u8>,
     pub viewers: Viewers,
     pub machine: Machine,
     /// The walk that was asked last, since many cells of it may be asked one after the other.
@@ -42,7 +45,9 @@ impl Model {
             Buffer::Picture => &self.picture,
             Buffer::Line => &self.line,
             Buffer::List => &self.list,
+            Buffer::Index => &self.index,
             Buffer::Spare => &self.spare,
+            Buffer::SpareIndex => &self.spare_index,
         }
     }
 
@@ -58,7 +63,9 @@ impl Model {
             Buffer::Picture => &mut self.picture,
             Buffer::Line => &mut self.line,
             Buffer::List => &mut self.list,
+            Buffer::Index => &mut self.index,
             Buffer::Spare => &mut self.spare,
+            Buffer::SpareIndex => &mut self.spare_index,
         }
     }
 
@@ -138,13 +145,27 @@ impl Model {
             Call::StoreForViewers { address, byte } => {
                 let (view, picture) = (&mut self.view, &mut self.picture);
                 let stored = mending::store(view, picture, &self.machine, address, byte);
-                if let Ok(marks) = stored {
-                    self.viewers.stored(marks);
-                }
-                seen(stored)
+                self.told(stored)
+            }
+            Call::StoreWithIndexForViewers { address, byte } => {
+                let stored = self.store_with_index(address, byte);
+                self.told(stored)
             }
             _ => unreachable!("no call that serves viewers: {call:?}"),
         }
+    }
+
+    /// A store's marks, which wait for each viewer.
+    fn told(&mut self, stored: Answer<u32>) -> Seen {
+        if let Ok(marks) = stored {
+            self.viewers.stored(marks);
+        }
+        seen(stored)
+    }
+
+    fn store_with_index(&mut self, address: u32, byte: u8) -> Answer<u32> {
+        let (view, picture, index) = (&mut self.view, &mut self.picture, &mut self.index);
+        index::store(view, picture, index, &self.machine, address, byte)
     }
 
     fn lending_call(&mut self, call: &Call) -> Seen {
@@ -156,6 +177,9 @@ impl Model {
             }
             Call::Draw => seen_drawn(self.draw(Buffer::Picture)),
             Call::DrawAfresh => seen_drawn(self.draw(Buffer::Spare)),
+            Call::IndexReaders => Seen::refusal(refusal(&self.index_readers(Buffer::Index))),
+            Call::IndexAfresh => Seen::refusal(refusal(&self.index_readers(Buffer::SpareIndex))),
+            Call::StoreWithIndex { address, byte } => seen(self.store_with_index(address, byte)),
             Call::GlyphPart { code } => self.glyph_part(code),
             Call::ScanLine { row, scan } => {
                 let (machine, line) = (self.machine, &mut self.line);
@@ -214,6 +238,17 @@ impl Model {
         }
         picture.copy_from_slice(&drawn.picture);
         Ok(drawn)
+    }
+
+    fn index_readers(&mut self, into: Buffer) -> Answer<()> {
+        let columns = self.machine.columns.into();
+        let fresh = index::index(&self.view.screen, &self.view.attribute, columns)?;
+        let index = self.bytes_mut(into);
+        if index.len() != INDEX {
+            return Err(1);
+        }
+        index.copy_from_slice(&fresh);
+        Ok(())
     }
 
     fn explain(&mut self, row: usize, column: usize) -> Answer<Why> {

@@ -155,6 +155,20 @@ fn plainer_calls(call: &Call) -> Vec<Call> {
         Call::StoreForViewers { address, .. } => {
             vec![Call::StoreForViewers { address, byte: 0 }]
         }
+        Call::StoreWithIndex { address, .. } => vec![Call::StoreWithIndex { address, byte: 0 }],
+        Call::StoreWithIndexForViewers { address, byte } => {
+            vec![
+                Call::StoreWithIndexForViewers { address, byte: 0 },
+                Call::StoreWithIndex { address, byte },
+            ]
+        }
+        Call::AlterIndex { entry, .. } => {
+            vec![Call::AlterIndex { entry, byte: 0 }, Call::IndexReaders]
+        }
+        Call::FillIndex { .. } => vec![Call::FillIndex { byte: 0 }, Call::IndexReaders],
+        Call::StrewIndex { .. } | Call::OtherIndex { .. } => {
+            vec![Call::FillIndex { byte: 0 }, Call::IndexReaders]
+        }
         Call::Ask { .. } => vec![Call::Ask { viewer: 0 }],
         Call::SetViewers(_) => vec![Call::StartViewers, Call::SetViewers([0; VIEWERS])],
         Call::ScanLine { row, scan } => {
@@ -187,12 +201,15 @@ fn plainer_calls(call: &Call) -> Vec<Call> {
     }
 }
 
-/// The fewest last, since the last that will do is taken.
+/// The fewest last, since the last that will do is taken. Where ticks are made only to come out of a reset, a machine
+/// that is in none will do, and the other ticks are needless.
 fn fewer_ticks(times: u32) -> Vec<Call> {
     let few = [256, 255, 130, 129, 128, 127, 126, 125, 2, 1];
     let fewer = [times - 1].into_iter().chain(few);
-    fewer
+    let fewer = fewer
         .filter(|fewer| *fewer > 0 && *fewer < times)
-        .map(|times| Call::WatchdogTick { times })
-        .collect()
+        .map(|times| Call::WatchdogTick { times });
+    let plain = Machine::power_up();
+    let out_of_reset = [132, 80].map(|columns| Call::SetMachine(Machine { columns, ..plain }));
+    out_of_reset.into_iter().chain(fewer).collect()
 }

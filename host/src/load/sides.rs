@@ -1,17 +1,18 @@
 //! The library and the model side by side, given the same calls, and a second library beside the first.
+use super::by_hand;
 use super::call::{Buffer, Call, Step, BUFFERS};
 use super::copies::{Copies, Quiet};
 use super::demands::{demands, Before};
 use super::desk::{Asked, Promise, Promises};
 use super::fault::Fault;
+use super::indexed::Indexed;
 use super::library::Library;
 use super::model::Model;
 use super::seen::mirrored;
 use super::watch_runs::Watched;
 use super::words::answered;
-use super::world::{self, World};
+use super::world::World;
 use crate::chain::{self, PICTURE};
-use crate::hard::Chance;
 use crate::history::History;
 use crate::machine::Machine;
 use crate::rainbow::{self, Seen};
@@ -33,6 +34,7 @@ pub struct Sides {
     second: Option<Library>,
     /// The picture has been drawn, and nothing has been done since that demand 3's runs do not hold.
     pub kept: bool,
+    pub indexed: Indexed,
     /// What the watchdog must do by the ticks made; there is none after a machine that no run of calls makes.
     history: Option<History>,
     pub watched: Watched,
@@ -72,6 +74,7 @@ impl Sides {
             history: History::of(&model.machine),
             model,
             kept: false,
+            indexed: Indexed::default(),
             watched: Watched::default(),
             asked: None,
             promise: None,
@@ -95,12 +98,13 @@ impl Sides {
 
     fn once(&mut self, step: &Step) -> Result<Seen, Differs> {
         let columns = self.model.machine.columns;
-        if let Call::StoreWithPicture { .. } | Call::StoreForViewers { .. } = step.call {
+        if step.call.mends() {
             let picture = self.library.content(Buffer::Picture);
             self.before.copy_from_slice(picture);
         }
         let promise = self.promise_of(step);
         let reset = self.library.machine.reset;
+        let (by_index, true_index) = (self.indexed.before(step, &self.library)?, self.indexed.kept);
         let mut model = self.model.call(step, self.fault);
         let mut library = self.library.call(step)?;
         self.put_fault(&step.call, [&mut model, &mut library]);
@@ -117,6 +121,14 @@ impl Sides {
             kept: self.kept,
         };
         demands(&self.library, before, &step.call, &library)?;
+        let moved = self.model.machine.columns != columns;
+        self.indexed.after(
+            step,
+            &library,
+            &self.library,
+            by_index,
+            moved && self.fault.sees_moves(),
+        )?;
         self.for_viewers(step, &library)?;
         self.by_ticks(step, &library)?;
         self.keeps_promise(&step.call, &library)?;
@@ -129,13 +141,17 @@ impl Sides {
         self.kept = match step.call {
             Call::Draw | Call::DrawForViewers if accepted => true,
             Call::Store8088 { .. } if accepted => false,
-            _ => self.kept && self.model.machine.columns == columns,
+            // It may have taken f from an untrue index.
+            _ if accepted && step.call.stores_with_index().is_some() => self.kept && true_index,
+            _ => self.kept && !moved,
         };
         Ok(library)
     }
 
-    fn put_fault(&mut self, call: &Call, answers: [&mut Seen; 2]) {
-        self.fault.after(call, &mut self.library, &mut self.model);
+    fn put_fault(&mut self, call: &Call, mut answers: [&mut Seen; 2]) {
+        let (library, model) = (&mut self.library, &mut self.model);
+        self.fault.after(call, library, model);
+        self.fault.of_index(call, &mut answers, library, model);
         if call.has_viewers() {
             let seen = &answers[1];
             self.fault.of_viewers(call, seen, &mut self.library.viewers);
@@ -280,33 +296,24 @@ impl Sides {
         if let Call::SetMachine(machine) = call {
             return self.set_machine(machine);
         }
-        self.copies.left_behind();
         if let Call::SetViewers(viewers) = *call {
+            self.copies.left_behind();
             self.model.viewers = Viewers::given(viewers);
             self.libraries()
                 .for_each(|library| library.viewers = viewers);
             return;
         }
-        self.kept = false;
-        match *call {
-            Call::AlterPicture { place, byte } => self.model.picture[place] = byte,
-            Call::StrewPicture { seed } => {
-                let mut chance = Chance(seed);
-                let picture = self.model.picture.iter_mut();
-                picture.for_each(|byte| *byte = chance.byte());
-            }
-            Call::OtherPicture { seed } => {
-                let (mut chance, columns) = (Chance(seed), self.model.machine.columns.into());
-                let (screen, attribute) = world::any_memories(&mut chance, columns);
-                let drawn = chain::draw(&screen, &attribute, columns);
-                self.model.picture = drawn.expect("the right lengths").picture;
-            }
-            _ => {}
+        let buffer = by_hand::change(call, &mut self.model);
+        if buffer == Buffer::Index {
+            self.indexed.kept = false;
+        } else {
+            self.copies.left_behind();
+            self.kept = false;
         }
-        let kept = self.model.picture.clone();
+        let changed = self.model.bytes(buffer).to_vec();
         for library in self.libraries() {
-            let picture = library.buffers[Buffer::Picture as usize].content_mut();
-            picture.copy_from_slice(&kept);
+            let bytes = library.buffers[buffer as usize].content_mut();
+            bytes.copy_from_slice(&changed);
         }
     }
 
@@ -318,7 +325,7 @@ impl Sides {
     }
 
     fn set_machine(&mut self, machine: &Machine) {
-        self.kept = false;
+        (self.kept, self.indexed.kept) = (false, false);
         self.model.machine = *machine;
         self.history = History::of(machine);
         self.libraries()

@@ -1,6 +1,7 @@
 //! Every port, code, edge, row, scan and place once, before calls are chosen by chance.
 use super::aim::EDGES;
 use super::call::{Call, Step, WRONG_LENGTHS};
+use super::index_sweep;
 use super::viewer_sweep;
 use crate::chain::{PAIRS, ROWS};
 use crate::dots::SCANS;
@@ -21,6 +22,7 @@ pub fn pieces() -> Vec<Vec<Step>> {
         marks(),
         cells(),
         viewer_sweep::asks(),
+        index_sweep::entries(),
         in_reset(),
     ];
     let mut all: Vec<Vec<Step>> = pieces
@@ -178,6 +180,8 @@ fn in_reset() -> Vec<Call> {
             calls.push(Call::Store8088 { address, byte });
             calls.push(Call::StoreWithPicture { address, byte });
             calls.push(Call::StoreForViewers { address, byte });
+            calls.push(Call::StoreWithIndex { address, byte });
+            calls.push(Call::StoreWithIndexForViewers { address, byte });
         }
         for place in [0, 255, 256, usize::MAX] {
             calls.push(Call::ReadShadow { place });
@@ -190,6 +194,7 @@ fn in_reset() -> Vec<Call> {
             calls.push(Call::ReadZ80 { address });
         }
         calls.extend([Call::Draw, Call::DrawAfresh, Call::VerticalTick]);
+        calls.extend([Call::IndexReaders, Call::IndexAfresh]);
         calls.extend([Call::DrawForViewers, Call::Ask { viewer: 7 }]);
         calls.extend([Call::Ask { viewer: 8 }, Call::StartViewers]);
         for (row, scan) in [(0, 1), (ROWS, 1), (0, 0)] {
@@ -235,6 +240,9 @@ fn lengths() -> Vec<Step> {
         Call::StoreWithPicture { address, byte },
         Call::DrawForViewers,
         Call::StoreForViewers { address, byte },
+        Call::IndexReaders,
+        Call::StoreWithIndex { address, byte },
+        Call::StoreWithIndexForViewers { address, byte },
         Call::GlyphPart { code: 0x41 },
         Call::ScanLine { row: 0, scan: 1 },
         Call::ListLines,

@@ -9,7 +9,9 @@ pub fn numbers(call: &Call) -> Vec<(&'static str, u64)> {
         Call::Read8088 { address } => vec![("address", address.into())],
         Call::Store8088 { address, byte }
         | Call::StoreWithPicture { address, byte }
-        | Call::StoreForViewers { address, byte } => {
+        | Call::StoreForViewers { address, byte }
+        | Call::StoreWithIndex { address, byte }
+        | Call::StoreWithIndexForViewers { address, byte } => {
             vec![("address", address.into()), ("byte", byte.into())]
         }
         Call::ReadZ80 { address } => vec![("address", address.into())],
@@ -29,6 +31,10 @@ pub fn numbers(call: &Call) -> Vec<(&'static str, u64)> {
             vec![("place", place as u64), ("byte", byte.into())]
         }
         Call::StrewPicture { seed } | Call::OtherPicture { seed } => vec![("seed", seed)],
+        Call::AlterIndex { entry, byte } => vec![("entry", entry as u64), ("byte", byte.into())],
+        Call::FillIndex { byte } => vec![("byte", byte.into())],
+        Call::StrewIndex { seed, under } => vec![("under", under as u64), ("seed", seed)],
+        Call::OtherIndex { seed } => vec![("seed", seed)],
         _ => Vec::new(),
     }
 }
@@ -36,11 +42,16 @@ pub fn numbers(call: &Call) -> Vec<(&'static str, u64)> {
 fn name(call: &Call) -> String {
     match call {
         Call::DrawAfresh => "draw into a second picture".to_string(),
+        Call::IndexAfresh => "index_readers into a second index".to_string(),
         Call::SetMachine(machine) => format!("(by hand) the machine becomes {machine:X?}"),
         Call::SetViewers(viewers) => format!("(by hand) the viewers become {viewers:X?}"),
         Call::AlterPicture { .. } => "(by hand) alter the picture".to_string(),
         Call::StrewPicture { .. } => "(by hand) any bytes in the picture".to_string(),
         Call::OtherPicture { .. } => "(by hand) a picture of other memories".to_string(),
+        Call::AlterIndex { .. } => "(by hand) alter the index".to_string(),
+        Call::FillIndex { .. } => "(by hand) fill the index with".to_string(),
+        Call::StrewIndex { .. } => "(by hand) any bytes in the index".to_string(),
+        Call::OtherIndex { .. } => "(by hand) an index of other memories".to_string(),
         _ => call
             .function()
             .map_or(String::new(), |function| FUNCTIONS[function].to_string()),
@@ -74,7 +85,8 @@ pub fn answered(call: &Call) -> &'static str {
     match call {
         Call::Read8088 { .. } | Call::ReadZ80 { .. } | Call::ReadShadow { .. } => "byte",
         Call::Draw | Call::DrawAfresh | Call::DrawForViewers => "read count",
-        Call::StoreWithPicture { .. } | Call::StoreForViewers { .. } | Call::Ask { .. } => "marks",
+        Call::Ask { .. } => "marks",
+        _ if call.mends() => "marks",
         Call::GlyphPart { .. } => "place",
         _ => "number",
     }

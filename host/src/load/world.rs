@@ -3,6 +3,7 @@ use super::model::Model;
 use crate::chain::{capacity, PICTURE, PLACES, ROWS};
 use crate::dots::{GLYPHS, LINE};
 use crate::hard::{self, Chance};
+use crate::index::INDEX;
 use crate::machine::Machine;
 use crate::memories::{View8088, NVM, PRIVATE, SHADOW, SHARED};
 use crate::rainbow::Waiting;
@@ -272,7 +273,7 @@ impl World {
         }
     }
 
-    /// All that the world begins with. A picture holds any bytes until it is drawn.
+    /// All that the world begins with. A picture holds any bytes until it is drawn, and so does an index.
     pub fn model(&self) -> Model {
         let chance = &mut Chance(self.seed);
         let machine = machine(chance);
@@ -291,7 +292,9 @@ impl World {
             picture: strewn(chance, PICTURE),
             line: strewn(chance, LINE),
             list: strewn(chance, LIST),
+            index: strewn(chance, INDEX),
             spare: strewn(chance, PICTURE),
+            spare_index: strewn(chance, INDEX),
             viewers: Viewers::given(viewers(chance)),
             machine,
             walk: Walk::default(),

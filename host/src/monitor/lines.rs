@@ -1,11 +1,12 @@
 //! What a line says: docs/MONITOR.md's table of forms, and the words and digits of a line.
 use crate::chain::PICTURE;
 use crate::dots::{GLYPHS, LINE};
+use crate::index::INDEX;
 use crate::memories::{ATTRIBUTE, NVM, PRIVATE, SCREEN, SHADOW, SHARED};
 use crate::screen::LIST;
 
 /// The forms, in the order that `help` has.
-pub const FORMS: [&str; 35] = [
+pub const FORMS: [&str; 37] = [
     "store HHHHHHHH HH",
     "blind HHHHHHHH HH",
     "read HHHHHHHH",
@@ -17,6 +18,8 @@ pub const FORMS: [&str; 35] = [
     "shadow write DDDDD HH",
     "shadow read DDDDD",
     "draw",
+    "index",
+    "index store HHHHHHHH HH",
     "ask DDDDD",
     "marked HHHHHHHH DDDDD",
     "why DDDDD DDDDD",
@@ -44,7 +47,7 @@ pub const FORMS: [&str; 35] = [
 ];
 
 /// The memories with their lengths by documents 01 and 02, in the order of their names.
-pub const NAMES: [(&str, usize); 10] = [
+pub const NAMES: [(&str, usize); 11] = [
     ("shared", SHARED),
     ("private", PRIVATE),
     ("screen", SCREEN),
@@ -55,6 +58,7 @@ pub const NAMES: [(&str, usize); 10] = [
     ("picture", PICTURE),
     ("line", LINE),
     ("lines", LIST),
+    ("index", INDEX),
 ];
 
 pub const LONGEST: usize = 200;
@@ -156,6 +160,8 @@ mod tests {
         assert_eq!(call("ask 99999"), Some(vec![99999]));
         assert_eq!(call("wait 00007 fFfFfFfF"), Some(vec![7, u32::MAX]));
         assert_eq!(call("viewers"), Some(vec![]));
+        assert_eq!(call("index"), Some(vec![]));
+        assert_eq!(call("index store fFfFfFfF 0"), Some(vec![u32::MAX, 0]));
         for bad in [
             "store 000000000 0",
             "store 0 000",
@@ -181,6 +187,12 @@ mod tests {
             "wait 100000 0",
             "wait 0 100000000",
             "viewers 0",
+            "index 0",
+            "index store",
+            "index store 0",
+            "index store 0 000",
+            "index store 000000000 0",
+            "index 0 0",
             "glyph 041",
         ] {
             assert_eq!(call(bad), None, "{bad}");
@@ -199,6 +211,7 @@ mod tests {
             "put shareds 7 1F",
             "put lin 7 1F",
             "put liness 7 1F",
+            "put indexes 7 1F",
         ] {
             assert_eq!(call(bad), None);
         }
@@ -293,6 +306,10 @@ mod tests {
         assert_eq!(understood(b"lines 1"), Line::Bad(vec!["lines"]));
         assert_eq!(understood(b"why 1"), Line::Bad(vec!["why DDDDD DDDDD"]));
         assert_eq!(understood(b"ask"), Line::Bad(vec!["ask DDDDD"]));
+        for bad in ["index 0", "index stored 0 0", "index store 0"] {
+            let forms = vec!["index", "index store HHHHHHHH HH"];
+            assert_eq!(understood(bad.as_bytes()), Line::Bad(forms), "{bad}");
+        }
         assert_eq!(
             understood(b"wait 8"),
             Line::Bad(vec!["wait DDDDD HHHHHHHH"])

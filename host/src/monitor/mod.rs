@@ -338,6 +338,52 @@ mod tests {
         }
     }
 
+    /// 02, ticket 8: "takes f from it and not from the walk, over 24 being no row. Entries under f stay, the others
+    /// become those of the memory after the store; with no row all stay".
+    #[test]
+    fn an_index_is_worked_out_and_kept() {
+        let lines: [(&str, &str); 33] = [
+            ("index", "indexed\n"),
+            ("bytes index 79 3", "bytes 00 00 FF\n"),
+            ("bytes index 4175 3", "bytes 00 FF FF\n"),
+            ("bytes index 8191 2", "bytes FF 00\n"),
+            ("draw", "drawn, "),
+            ("ask 3", "asked, marks 01FFFFFF"),
+            ("index store EE000 41", "stored, marks 00000001 0\n"),
+            ("ask 3", "asked, marks 00000001 0\n"),
+            ("index store EE002 FF", "stored, marks 01FFFFFF 0 1 2"),
+            ("bytes index 0 6", "bytes 00 00 00 00 00 FF\n"),
+            ("bytes index 4096 5", "bytes 00 00 FF 00 FF\n"),
+            ("store EE005 41", "stored, marks 00000000\n"),
+            ("index store EE005 42", "stored, marks 00000000\n"),
+            ("put index 5 18", "put\n"),
+            ("put index 6 17", "put\n"),
+            ("put index 7 19", "put\n"),
+            ("index store EE005 FF", "stored, marks 00000000\n"),
+            ("bytes index 5 3", "bytes FF 17 FF\n"),
+            ("put index 5 19", "put\n"),
+            ("put index 7 20", "put\n"),
+            ("index store EE005 42", "stored, marks 00000000\n"),
+            ("bytes index 5 3", "bytes 19 17 20\n"),
+            ("index store 5 42", "stored, marks 00000000\n"),
+            ("index store F0000 42", "refused 2, marks 00000000: "),
+            ("count 0 1", "counted: "),
+            ("index store F0000 42", "refused 8, marks 00000000: "),
+            ("lend index 8193", "lent\n"),
+            ("index store F0000 42", "refused 1, marks 00000000: "),
+            ("index", "refused 1: a memory lent at another length"),
+            ("bytes index 5 3", "bytes 19 17 20\n"),
+            ("lend index 8192", "lent\n"),
+            ("index", "indexed\n"),
+            ("bytes index 5 3", "bytes FF FF FF\n"),
+        ];
+        let mut session = Session::power_up();
+        for (line, begins) in lines {
+            let answer = String::from_utf8(session.answer(line.as_bytes())).unwrap();
+            assert!(answer.starts_with(begins), "{line}: {answer}");
+        }
+    }
+
     /// 02, ticket 6: "a cell, with the place that holds it and the kind of its row; fill, with the place of the FF that
     /// ended the row; past the row's capacity; dark, with the row that tore; and, for all but the dark, the place of
     /// the low link byte that led to the row, or that it is row 0".
@@ -424,6 +470,8 @@ mod tests {
     fn bad_lines_tell_the_forms() {
         let two = "expected z80 store HHHH HH\nexpected z80 read HHHH\n";
         assert_eq!(heard(b"z80 stored 0 0"), two);
+        let two = "expected index\nexpected index store HHHHHHHH HH\n";
+        assert_eq!(heard(b"index store"), two);
         assert_eq!(heard(b"fill line"), "expected fill NAME HH\n");
         let none = "expected one of the lines that help shows\n";
         assert_eq!(heard(b"nothing"), none);

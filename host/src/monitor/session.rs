@@ -4,6 +4,7 @@ use super::memory::Memory;
 use super::shown;
 use crate::chain::{self, PICTURE};
 use crate::dots;
+use crate::index::{self, INDEX};
 use crate::machine::Machine;
 use crate::memories::{self, View8088};
 use crate::mending;
@@ -22,6 +23,7 @@ const SHADOW: usize = 6;
 const PICTURES: usize = 7;
 const LINE: usize = 8;
 const LINES: usize = 9;
+const INDEXES: usize = 10;
 
 pub struct Session {
     machine: Machine,
@@ -100,6 +102,7 @@ impl Session {
     fn without_numbers(&mut self, form: &str) -> Answer<String> {
         let word = match form {
             "draw" => return self.draw(),
+            "index" => return self.index(),
             "lines" => return self.lines(),
             "viewers" => return Ok(shown::waiting("viewers", &self.viewers.numbers())),
             "sums" => {
@@ -135,6 +138,7 @@ impl Session {
         let reads = |byte| shown::bytes("reads", &[byte]);
         match form.split(" H").next().unwrap_or(form) {
             "store" => self.store(first, byte),
+            "index store" => self.store_with_index(first, byte),
             "blind" => self
                 .with_view(|view, _, machine| view.store(machine, first, byte))
                 .map(stored),
@@ -207,8 +211,32 @@ impl Session {
         let marks = self.with_view(|view, picture, machine| {
             mending::store(view, picture, machine, address, byte)
         })?;
+        Ok(self.served(marks))
+    }
+
+    fn store_with_index(&mut self, address: u32, byte: u8) -> Answer<String> {
+        let mut kept = self.taken(INDEXES);
+        let marks = self.with_view(|view, picture, machine| {
+            index::store(view, picture, &mut kept, machine, address, byte)
+        })?;
+        self.put_back(INDEXES, &kept);
+        Ok(self.served(marks))
+    }
+
+    /// The marks of a store wait for each viewer.
+    fn served(&mut self, marks: u32) -> String {
         self.viewers.stored(marks);
-        Ok(shown::marks("stored", marks))
+        shown::marks("stored", marks)
+    }
+
+    fn index(&mut self) -> Answer<String> {
+        let (screen, attribute) = (self.lent(SCREEN), self.lent(ATTRIBUTE));
+        let fresh = index::index(screen, attribute, self.columns())?;
+        if self.lent(INDEXES).len() != INDEX {
+            return Err(1);
+        }
+        self.put_back(INDEXES, &fresh);
+        Ok("indexed".to_string())
     }
 
     /// Any number in place of what waits for a viewer, as a caller can put it.

@@ -10,7 +10,7 @@ use crate::why::{Led, Why};
 pub fn refused(form: &str, number: u8) -> String {
     let beside = match form.split(" H").next().unwrap_or(form) {
         "read" | "z80 read" | "shadow read DDDDD" => ", byte 00",
-        "store" | "ask DDDDD" => ", marks 00000000",
+        "store" | "index store" | "ask DDDDD" => ", marks 00000000",
         "draw" => ", bytes read 0, no wild row named",
         "why DDDDD DDDDD" => ", as numbers 0 0000 0 0 0 0000",
         _ => "",

@@ -1,6 +1,10 @@
 //! A shared object: its functions by their names of C, and a call of each. Rust's own rules keep what the header asks
 //! of its caller: a slice is one buffer with its length, and one that may change overlaps no other.
-use super::{Explained, Lent, Machine, Request, Seen, Waiting, Wild, FUNCTIONS};
+use super::answers::{
+    Asked, ByteRead, Drawn, DrawnForViewers, PartPlace, Stored, StoredForViewers, Viewers, Why,
+    Written,
+};
+use super::{Explained, Lent, Machine, Request, Seen, Wild, FUNCTIONS, MOST_LENT};
 use std::ffi::{c_void, CStr, CString};
 use std::os::raw::{c_char, c_int};
 use std::ptr::null_mut;
@@ -13,74 +17,6 @@ extern "C" {
 
 /// Every name is looked up at once, and seen by no other library.
 const NOW: c_int = 2;
-
-#[repr(C)]
-struct ByteRead {
-    refusal: u8,
-    byte: u8,
-}
-
-#[repr(C)]
-struct Written {
-    refusal: u8,
-    machine: Machine,
-}
-
-#[repr(C)]
-struct Drawn {
-    refusal: u8,
-    reads: u16,
-    wild: u8,
-    wild_row: u8,
-}
-
-#[repr(C)]
-struct Stored {
-    refusal: u8,
-    marks: u32,
-}
-
-#[repr(C)]
-struct Viewers {
-    waiting: Waiting,
-}
-
-#[repr(C)]
-struct Asked {
-    refusal: u8,
-    marks: u32,
-    viewers: Viewers,
-}
-
-#[repr(C)]
-struct DrawnForViewers {
-    drawn: Drawn,
-    viewers: Viewers,
-}
-
-#[repr(C)]
-struct StoredForViewers {
-    stored: Stored,
-    viewers: Viewers,
-}
-
-#[repr(C)]
-struct Why {
-    refusal: u8,
-    answer: u8,
-    place: u16,
-    kind: u8,
-    tore: u8,
-    linked: u8,
-    link: u16,
-}
-
-#[repr(C)]
-struct PartPlace {
-    refusal: u8,
-    at: usize,
-    length: usize,
-}
 
 /// The shared object, with the address of each function.
 pub struct Loaded {
@@ -100,6 +36,9 @@ macro_rules! of {
 
 type In = *const u8;
 type Out = *mut u8;
+
+/// The buffers that are lent, and after them NULL.
+type Buffers = [(Out, usize); MOST_LENT];
 
 /// Where a buffer is and how long it is.
 fn raw(lent: &mut Lent) -> (Out, usize) {
@@ -139,7 +78,7 @@ impl Loaded {
         let viewers = Viewers { waiting };
         let at = self.functions[function];
         let name = FUNCTIONS[function];
-        let mut buffers = [(null_mut(), 0); 4];
+        let mut buffers = [(null_mut(), 0); MOST_LENT];
         for (place, one) in buffers.iter_mut().zip(&mut lent) {
             *place = raw(one);
         }
@@ -166,7 +105,7 @@ impl Loaded {
                         ..Seen::answer(asked.refusal, asked.marks)
                     }
                 }
-                "draw_for_viewers" | "store_for_viewers" => {
+                "draw_for_viewers" | "store_for_viewers" | "store_with_index_for_viewers" => {
                     serving(name, at, machine, viewers, buffers, m, n)
                 }
                 _ => lending(name, at, machine, buffers, m, n),
@@ -181,11 +120,11 @@ unsafe fn serving(
     at: usize,
     machine: Machine,
     viewers: Viewers,
-    lent: [(Out, usize); 4],
+    lent: Buffers,
     m: u64,
     n: u64,
 ) -> Seen {
-    let [(a, a_len), (b, b_len), (c, c_len), (d, d_len)] = lent;
+    let [(a, a_len), (b, b_len), (c, c_len), (d, d_len), (e, e_len)] = lent;
     if name == "draw_for_viewers" {
         let call = of!(at, (Machine, Viewers, In, usize, In, usize, Out, usize) -> DrawnForViewers);
         let served = call(machine, viewers, a, a_len, b, b_len, c, c_len);
@@ -194,13 +133,24 @@ unsafe fn serving(
             ..drawn(served.drawn)
         };
     }
-    let call = of!(
-        at,
-        (Machine, Viewers, Out, usize, Out, usize, Out, usize, Out, usize, u32, u8) -> StoredForViewers
-    );
-    let served = call(
-        machine, viewers, a, a_len, b, b_len, c, c_len, d, d_len, m as u32, n as u8,
-    );
+    let (address, byte) = (m as u32, n as u8);
+    let served = if name == "store_with_index_for_viewers" {
+        let call = of!(
+            at,
+            (Machine, Viewers, Out, usize, Out, usize, Out, usize, Out, usize, Out, usize, u32, u8) -> StoredForViewers
+        );
+        call(
+            machine, viewers, a, a_len, b, b_len, c, c_len, d, d_len, e, e_len, address, byte,
+        )
+    } else {
+        let call = of!(
+            at,
+            (Machine, Viewers, Out, usize, Out, usize, Out, usize, Out, usize, u32, u8) -> StoredForViewers
+        );
+        call(
+            machine, viewers, a, a_len, b, b_len, c, c_len, d, d_len, address, byte,
+        )
+    };
     Seen {
         viewers: served.viewers.waiting,
         ..Seen::answer(served.stored.refusal, served.stored.marks)
@@ -208,15 +158,8 @@ unsafe fn serving(
 }
 
 /// A call of another function that is lent buffers.
-unsafe fn lending(
-    name: &str,
-    at: usize,
-    machine: Machine,
-    lent: [(Out, usize); 4],
-    m: u64,
-    n: u64,
-) -> Seen {
-    let [(a, a_len), (b, b_len), (c, c_len), (d, d_len)] = lent;
+unsafe fn lending(name: &str, at: usize, machine: Machine, lent: Buffers, m: u64, n: u64) -> Seen {
+    let [(a, a_len), (b, b_len), (c, c_len), (d, d_len), (e, e_len)] = lent;
     match name {
         "write_port" => {
             let call = of!(at, (Machine, Out, usize, Out, usize, u16, u8) -> Written);
@@ -257,6 +200,20 @@ unsafe fn lending(
             let call = of!(at, (Machine, Out, usize, Out, usize, Out, usize, Out, usize, u32, u8) -> Stored);
             let stored = call(
                 machine, a, a_len, b, b_len, c, c_len, d, d_len, m as u32, n as u8,
+            );
+            Seen::answer(stored.refusal, stored.marks)
+        }
+        "index_readers" => {
+            let call = of!(at, (Machine, In, usize, In, usize, Out, usize) -> u8);
+            Seen::refusal(call(machine, a, a_len, b, b_len, c, c_len))
+        }
+        "store_with_index" => {
+            let call = of!(
+                at,
+                (Machine, Out, usize, Out, usize, Out, usize, Out, usize, Out, usize, u32, u8) -> Stored
+            );
+            let stored = call(
+                machine, a, a_len, b, b_len, c, c_len, d, d_len, e, e_len, m as u32, n as u8,
             );
             Seen::answer(stored.refusal, stored.marks)
         }

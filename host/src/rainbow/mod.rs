@@ -1,5 +1,6 @@
 //! A library with the calls of include/rainbow.h: a shared object that is loaded, or a program that makes the calls in
 //! a process of its own (host/serve.c), which may be for another processor and run by an emulator.
+mod answers;
 mod loaded;
 mod served;
 
@@ -25,7 +26,7 @@ pub struct Machine {
 }
 
 /// The functions of the header, without `rainbow_`. host/serve.c has the same numbers.
-pub const FUNCTIONS: [&str; 28] = [
+pub const FUNCTIONS: [&str; 31] = [
     "version",
     "power_up",
     "vertical_tick",
@@ -50,11 +51,17 @@ pub const FUNCTIONS: [&str; 28] = [
     "scan_line",
     "list_lines",
     "explain",
+    "index_readers",
+    "store_with_index",
     "start_viewers",
     "ask",
     "draw_for_viewers",
     "store_for_viewers",
+    "store_with_index_for_viewers",
 ];
+
+/// The most buffers that a function is lent.
+pub const MOST_LENT: usize = 5;
 
 /// The marks that wait for each viewer.
 pub type Waiting = [u32; VIEWERS];

@@ -52,9 +52,24 @@ impl Script {
         self.line(&format!("store {address:05X} {byte:02X}"));
     }
 
-    pub fn aimed_store(&mut self) {
+    /// The same with the index lent.
+    pub fn index_store(&mut self, address: usize, byte: u8) {
+        self.line(&format!("index store {address:05X} {byte:02X}"));
+    }
+
+    fn aimed(&mut self) -> (usize, u8) {
         let address = self.address();
         let (byte, _) = self.byte_for(address);
+        (address, byte)
+    }
+
+    pub fn aimed_store(&mut self) {
+        let (address, byte) = self.aimed();
         self.store(address, byte);
+    }
+
+    pub fn aimed_index_store(&mut self) {
+        let (address, byte) = self.aimed();
+        self.index_store(address, byte);
     }
 }

@@ -6,7 +6,7 @@ use crate::monitor::lines::NAMES;
 /// What is called, the memories that it is lent, a line that is accepted and one that is not.
 type Tried<'a> = (&'a str, &'a [&'a str], &'a str, &'a str);
 
-const CALLS: [Tried<'static>; 11] = [
+const CALLS: [Tried<'static>; 12] = [
     (
         "the 8088's read",
         &["shared", "screen", "attribute"],
@@ -24,6 +24,12 @@ const CALLS: [Tried<'static>; 11] = [
         &["shared", "screen", "attribute", "picture"],
         "store EE000 41",
         "store 10000 41",
+    ),
+    (
+        "the 8088's store with a picture and an index lent",
+        &["shared", "screen", "attribute", "picture", "index"],
+        "index store EE000 41",
+        "index store 10000 41",
     ),
     (
         "the Z80's read, while it is held",
@@ -72,12 +78,18 @@ const CALLS: [Tried<'static>; 11] = [
 
 /// The calls with those that show a picture; two are refused at a row past the last, for which they have these lines.
 fn calls<'a>([scan_past, why_past]: [&'a str; 2]) -> Vec<Tried<'a>> {
-    let drawing: [Tried; 4] = [
+    let drawing: [Tried; 5] = [
         (
             "the drawing call",
             &["screen", "attribute", "picture"],
             "draw",
             "draw",
+        ),
+        (
+            "the index worked out afresh",
+            &["screen", "attribute", "index"],
+            "index",
+            "index",
         ),
         (
             "the scan line call",
@@ -163,6 +175,7 @@ pub fn script() -> Script {
         "lend line 0",
         "lend lines 0",
     ]);
+    script.lines(&["index", "index store EE000 40", "lend index 0"]);
     script.lines(&["draw", "read EE000", "blind EE000 41", "store EE000 42"]);
     script.lines(&[
         "ask 0",
@@ -172,7 +185,8 @@ pub fn script() -> Script {
         "power",
     ]);
     script.lines(&["lend shared 0", "lend private 0", "lend nvm 0", "draw"]);
-    script.lines(&["lend picture 0", "glyph 41", "power", "lend picture 0"]);
+    script.lines(&["lend picture 0", "glyph 41", "index", "power"]);
+    script.line("lend picture 0");
     script.lines(&[
         "why 0 0",
         "read EE000",
@@ -182,7 +196,8 @@ pub fn script() -> Script {
     ]);
     script.lines(&["lend attribute 0", "port 0A 01"]);
     script.lines(&["z80 read 0800", "line 0 1", "lend glyphs 0"]);
-    script.lines(&["lend line 0", "lines", "ask 7", "ask 8", "viewers"]);
+    script.lines(&["lend index 0", "lend line 0", "lines", "ask 7"]);
+    script.lines(&["ask 8", "viewers"]);
     script.remark("Lent at their own lengths, each is accepted, or refused by the next number.");
     script.lines(&["power", "z80 read 0000", "z80 store 0000 41"]);
     script.line("port 0A 03");
@@ -204,13 +219,14 @@ pub fn script() -> Script {
 
 /// Whether a line keeps the viewers too.
 fn serves(line: &str) -> bool {
-    line == "draw" || line.starts_with("store ")
+    line == "draw" || line.starts_with("store ") || line.starts_with("index store ")
 }
 
 /// Whether a line is one of the 8088's.
 fn by_8088(line: &str) -> bool {
     let first = line.split(' ').next().unwrap_or_default();
     ["read", "blind", "store", "port", "shadow"].contains(&first)
+        || line.starts_with("index store ")
 }
 
 /// From a disabled watchdog to the 8088's reset.

@@ -1,5 +1,6 @@
 //! The long parts of the monitor's scripts, made from seeds: the same lines every time.
 mod aimed;
+mod indexed;
 mod lengths;
 mod lines;
 mod ports;
@@ -64,6 +65,11 @@ impl Script {
         self.lines(&["sums", "draw", "sums"]);
     }
 
+    /// The sums with the kept picture and the kept index, and then with both made afresh.
+    fn compare_with_index(&mut self) {
+        self.lines(&["sums", "draw", "index", "sums"]);
+    }
+
     fn next(&mut self) -> usize {
         self.seed = next(self.seed);
         (self.seed >> 16) as usize
@@ -86,5 +92,6 @@ pub fn all() -> Vec<(&'static str, String)> {
         ("11-every-port.txt", ports::script().text),
         ("12-run.txt", run::script().text),
         ("13-scan-lines.txt", lines::script().text),
+        ("24-indexed.txt", indexed::script().text),
     ]
 }

@@ -1,4 +1,4 @@
-//! A run of calls of both processors and of the ports, with one picture kept.
+//! A run of calls of both processors and of the ports, with one picture and one index kept.
 use super::{Script, ROWS};
 use crate::chain::PAIRS;
 use crate::viewers::VIEWERS;
@@ -8,30 +8,43 @@ const TURNS: usize = 320;
 pub fn script() -> Script {
     let mut script = Script::new(
         5,
-        "A RUN. Stores by both processors, the Z80 held or running, ticks, writes to ports, refused ones \
-         too; one picture kept. Now and then the lines of the whole screen, why cells show what they show, and asks.",
+        "A RUN. Stores by both processors, the Z80 held or running, ticks, writes to ports, refused ones too; one \
+         picture kept.",
+    );
+    script.remark(
+        "Now and then the lines of the whole screen, why cells show what they show, and asks.",
+    );
+    script.remark(
+        "In every other twenty turns the 8088 stores with the index lent, which is worked out ahead of them.",
     );
     script.lines(&["fill shadow 11", "fill nvm EE", "strew screen 51 40 17"]);
-    script.lines(&["strew attribute 52 30 256", "draw"]);
+    script.line("strew attribute 52 30 256");
+    run(&mut script, |turn| (turn - 1) / 20 % 2 == 1);
+    script
+}
+
+/// The turns of a run; in some of them the stores of the 8088 are lent the index.
+pub fn run(script: &mut Script, indexed: impl Fn(usize) -> bool) {
+    script.lines(&["draw", "index"]);
     for turn in 1..=TURNS {
         match script.next() & 15 {
+            0..=8 if indexed(turn) => script.aimed_index_store(),
             0..=8 => script.aimed_store(),
-            9 | 10 => z80(&mut script),
-            11 => shadow(&mut script),
-            _ => port(&mut script),
+            9 | 10 => z80(script),
+            11 => shadow(script),
+            _ => port(script),
         }
         if turn % 7 == 0 {
             script.line(&format!("ask {}", turn / 7 % (VIEWERS + 1)));
         }
         if turn % 20 == 0 {
             script.line("viewers");
-            script.compare();
+            script.compare_with_index();
             script.line("lines");
-            why(&mut script, turn / 20);
+            why(script, turn / 20);
         }
     }
     script.lines(&["machine", "viewers", "rows"]);
-    script
 }
 
 /// A call of the Z80, now and then after bit 0 of port 0A was turned over, and no other bit.
@@ -64,7 +77,7 @@ fn shadow(script: &mut Script) {
     script.line(&format!("shadow read {}", m % 272));
 }
 
-/// A write to a port; after another column setting the picture is drawn again.
+/// A write to a port; after another column setting the picture and the index are made afresh.
 fn port(script: &mut Script) {
     let ports = [0x04, 0x04, 0x04, 0x0A, 0x0A, 0x0C, 0x10C, 0x05];
     let (n, m) = (script.next(), script.next());
@@ -80,6 +93,6 @@ fn port(script: &mut Script) {
     let before = script.session.columns();
     script.line(&format!("port {port:02X} {code:02X}"));
     if script.session.columns() != before {
-        script.line("draw");
+        script.lines(&["draw", "index"]);
     }
 }

@@ -15,7 +15,7 @@ pub fn script() -> Script {
     script
 }
 
-fn strew(script: &mut Script, every: usize, under: usize) {
+pub fn strew(script: &mut Script, every: usize, under: usize) {
     let (screen, attribute) = (script.next(), script.next());
     script.line(&format!("strew screen {screen} {every} {under}"));
     script.line(&format!("strew attribute {attribute} 30 256"));
@@ -53,7 +53,7 @@ fn kept(script: &mut Script) {
 
 /// A chain of all rows, each a few bytes after the one before, most of them full; one may be torn. The links from a row
 /// on are wild. The answer is where the last row's high link byte is, and what it is.
-fn lay(script: &mut Script, columns: usize, torn: usize, wild: usize) -> (usize, u8) {
+pub fn lay(script: &mut Script, columns: usize, torn: usize, wild: usize) -> (usize, u8) {
     let (mut start, mut kind, mut last) = (0, 3, (0, 0));
     for row in 0..ROWS {
         let (n, m) = (script.next(), script.next());

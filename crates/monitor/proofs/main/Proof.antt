@@ -5,17 +5,17 @@ use Rattle.monitor.proofs.main.Statement.{statement}
 use Rattle.monitor.proofs.main.Tie as tie
 
 abbrev Inv-loop : tie.InvT-loop
-Inv-loop shared₀ private₀ screen₀ attribute₀ glyphs₀ nvm₀ shadow₀ picture₀ line₀ lines₀ desk₀ source₀ turns₀ shared private screen attribute glyphs nvm shadow picture line lines desk source turns =
+Inv-loop shared₀ private₀ screen₀ attribute₀ glyphs₀ nvm₀ shadow₀ picture₀ line₀ lines₀ index₀ desk₀ source₀ turns₀ shared private screen attribute glyphs nvm shadow picture line lines index desk source turns =
     Unit {0}
 
 abbrev μ-loop : tie.MeasureT-loop
-μ-loop shared₀ private₀ screen₀ attribute₀ glyphs₀ nvm₀ shadow₀ picture₀ line₀ lines₀ desk₀ source₀ turns₀ shared private screen attribute glyphs nvm shadow picture line lines desk source turns =
+μ-loop shared₀ private₀ screen₀ attribute₀ glyphs₀ nvm₀ shadow₀ picture₀ line₀ lines₀ index₀ desk₀ source₀ turns₀ shared private screen attribute glyphs nvm shadow picture line lines index desk source turns =
     turns
 
 -- the test of the loop, many steps before
 abbrev tested : (t : tie.After-turn Inv-loop μ-loop) → tie.In-loop Inv-loop μ-loop
 tested t =
-    let lent = t .before .before .before .before .before .before .before .before .before .before .before in
+    let lent = t .before .before .before .before .before .before .before .before .before .before .before .before in
     lent .before .before .before .before .before
 
 power-up-requires : tie.Need-power-up-requires Inv-loop μ-loop

@@ -8,7 +8,7 @@ returns c =
     let stored = c .before .before .before .before .before .before .before .before .before in
     let args = stored .before .before .before .before .before .before .before .before .before .args in
     serves-store (args .machine) (args .viewers) (args .shared .now) (args .screen .now) (args .attribute .now) (args .picture .now)
-    (args .address) (args .byte) (c .add .ensures) (stored .store-with-picture .ensures)
+    (args .address) (args .byte) (c .serve .ensures) (stored .store-with-picture .ensures)
 
 pub store-for-viewers-spec : {M : Type 1} → statement M
 store-for-viewers-spec =

@@ -4,9 +4,9 @@ use mathlib.Core.List.{List}
 use native.Mathlib.Omega.{arith}
 use lib.ListN.{length, getD, set, length-map}
 use borrow.Author.Needs.{needs}
+use Rattle.lent.proofs.Maps.{partly, partly-begins, partly-goes-on, partly-ends}
 use Rattle.marks.specs.Marks.{joined}
 use Rattle.viewers.specs.Viewers.{viewers}
-use Rattle.viewers.proofs.Laws.{partly, partly-begins, partly-goes-on, partly-ends}
 use Rattle.viewers.proofs.Viewers.add.Statement.{statement}
 use Rattle.viewers.proofs.Viewers.add.Tie as tie
 

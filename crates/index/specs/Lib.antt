@@ -1,0 +1,5 @@
+pub mod Index
+pub mod Store
+pub mod Meaning
+pub mod True
+pub mod Inner
