@@ -1,4 +1,6 @@
 // Words and numbers as ASCII text. What puts text into a lent buffer says where the text goes on.
+#![tactic(auto)]
+
 ghost use Rattle.std.specs.Prelude.{◌+◌, ◌≤◌, ◌<◌, ◌≡◌, ◌∷◌, [], length};
 ghost use Rattle.ascii.specs.Ascii.{same};
 ghost use Rattle.ascii.specs.Numbers.{digit, reached, decimal, hex};

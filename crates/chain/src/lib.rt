@@ -1,5 +1,7 @@
 // The chain of lines in screen memory: where a row starts, how many cells it can have, and what its
 // link says of the row after it. Document 01, "The chain of lines".
+#![tactic(auto)]
+
 ghost use Rattle.std.specs.Prelude.{◌+◌, ◌-◌, ◌≤◌, ◌<◌, min, ◌≡◌, length};
 ghost use Rattle.lent.specs.Lengths.{screen_bytes, attribute_bytes};
 ghost use Rattle.chain.specs.Inner.{has_ff, ahead_of_ff, Sought};
@@ -25,21 +27,21 @@ const FEW_TOGETHER: usize = 8;
 
 // Where a row starts, and its kind. A start of two bytes leaves next to no padding, which a compiler would copy from
 // row to row, through memory.
-#[derive(Drop)]
+#[derive(Clone, Copy)]
 pub struct Head {
     pub start: u16,
     pub kind: u8,
 }
 
 // What a search for the terminator finds: how many bytes after the row's start it stands.
-#[derive(Drop)]
+#[derive(Clone, Copy)]
 pub enum Terminator {
     After(usize),
     Missing,
 }
 
 // What the chain leads to.
-#[derive(Drop)]
+#[derive(Clone, Copy)]
 pub enum Ahead {
     Row(Head),
     Dark,

@@ -1,4 +1,6 @@
 // A line typed at a monitor: the first form that it fits, and the numbers in it.
+#![tactic(auto)]
+
 mod meanings;
 mod slots;
 mod words;
@@ -15,7 +17,7 @@ pub const FORM_BYTES: usize = 32;
 pub const NAME_BYTES: usize = 16;
 
 // A form by its number, and the first four numbers of the line that fits it. Those that it has not are 0.
-#[derive(Drop)]
+#[derive(Clone, Copy)]
 pub struct Command {
     pub form: usize,
     pub first: usize,
@@ -24,7 +26,7 @@ pub struct Command {
     pub fourth: usize,
 }
 
-#[derive(Drop)]
+#[derive(Clone, Copy)]
 enum Fit {
     Fits(Command),
     Differs,

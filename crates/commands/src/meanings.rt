@@ -8,7 +8,7 @@ use super::{slots, words};
 // A number stays within 32 bits.
 const TOO_LARGE: usize = 0x100000000;
 
-#[derive(Drop)]
+#[derive(Clone, Copy)]
 pub enum Meaning {
     Number(usize),
     // The word that the form has.

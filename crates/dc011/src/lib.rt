@@ -1,4 +1,6 @@
 // Port 04, the DC011 timing chip: columns, refresh rate, interlace.
+#![tactic(auto)]
+
 ghost use Rattle.std.specs.Prelude.{◌≡◌};
 ghost use Rattle.dc011.specs.Dc011.{set_columns, set_rate, write_dc011};
 

@@ -1,5 +1,7 @@
 // Ports 0C and 10C, the DC012 control chip: scroll latch, blink, vertical interrupt, reverse field. Code 09, which
 // acknowledges the interrupt, also sets the watchdog's count to 0.
+#![tactic(auto)]
+
 ghost use Rattle.std.specs.Prelude.{◌≡◌};
 ghost use Rattle.dc012.specs.Dc012.{write_dc012};
 

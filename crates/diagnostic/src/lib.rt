@@ -1,5 +1,7 @@
 // Port 0A, the diagnostic write port: it holds its byte, and the rising edges of bits 6 and 7 start
 // the copies between shadow and NVM.
+#![tactic(auto)]
+
 ghost use Rattle.std.specs.Prelude.{◌≡◌, ◌%◌, ◌&&◌, eqb, length};
 ghost use Rattle.diagnostic.specs.Diagnostic.{write_diagnostic, written_port};
 

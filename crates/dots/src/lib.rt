@@ -1,5 +1,7 @@
 // The dots of a cell: a glyph byte's eight bits and the fill after them, as the cell's attribute shows
 // them. Document 01, "Dots".
+#![tactic(auto)]
+
 ghost use Rattle.std.specs.Prelude.{◌≡◌, true, false, cond, ◌&&◌, length, eqb};
 ghost use Rattle.std.specs.Int.Bits.{bit_xor};
 ghost use Rattle.dots.specs.Attributes.{is_underlined, underline_scan, lit, steady, blinks};

@@ -1,5 +1,7 @@
 // Why a cell of the screen shows what it shows: the place that holds it, and the link that led to its row. Document 02,
 // ticket 6.
+#![tactic(auto)]
+
 ghost use Rattle.std.specs.Prelude.{◌≤◌, ◌<◌, ◌≡◌, length};
 ghost use Rattle.lent.specs.Lengths.{screen_bytes, attribute_bytes};
 ghost use Rattle.chain.specs.Chain.{chain, places, rows};
@@ -13,21 +15,21 @@ use chain::{Head, Terminator};
 use machine::Machine;
 
 // What led to a row: that it is row 0, where the chain begins, or a link, whose low byte stands at this place.
-#[derive(Drop)]
+#[derive(Clone, Copy)]
 pub enum Led {
     Row0,
     Link(u16),
 }
 
 // What the chain comes to at a row: its head and what led there; of a dark row, the row that tore.
-#[derive(Drop)]
+#[derive(Clone, Copy)]
 pub enum Reached {
     Row(Head, Led),
     Dark(u8),
 }
 
 // Why a cell shows what it shows.
-#[derive(Drop)]
+#[derive(Clone, Copy)]
 pub enum Why {
     // The call is refused, by this number.
     Refused(u8),
@@ -52,7 +54,7 @@ pub const DARK: u8 = 4;
 
 // The answer as numbers. What an answer does not have is 0, and `linked` is set where a link led to the row.
 #[repr(C)]
-#[derive(Drop)]
+#[derive(Clone, Copy)]
 pub struct Explained {
     pub refusal: u8,
     pub answer: u8,

@@ -1,5 +1,7 @@
 // The glyph table: where the bytes of a code stand, and which scan of a glyph a row shows. Document 01,
 // "Dots".
+#![tactic(auto)]
+
 ghost use Rattle.std.specs.Prelude.{◌≤◌, ◌<◌, ◌≡◌, length};
 ghost use Rattle.lent.specs.Lengths.{glyph_bytes};
 ghost use Rattle.glyphs.specs.Glyphs.{code_bytes, glyph_byte, slice, part_of, part_refusal};

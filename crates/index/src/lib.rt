@@ -1,5 +1,7 @@
 // The index of first readers: for each place of screen and then of attribute memory the number of the first row that
 // reads it. It is worked out afresh, or kept by a store that takes its first row from it. Document 02, ticket 8.
+#![tactic(auto)]
+
 ghost use Rattle.std.specs.Prelude.{◌≤◌, ◌≡◌, length};
 ghost use Rattle.lent.specs.Lengths.{screen_bytes, attribute_bytes, picture_bytes, index_bytes};
 ghost use Rattle.chain.specs.Chain.{chain, rows};
@@ -179,7 +181,7 @@ fn lengths_with_index(
 
 // What a store finds before it mends: by what it is refused, and the row that the index names for the byte. A number
 // over 24 is no row, and so it is where the store is refused.
-#[derive(Drop)]
+#[derive(Clone, Copy)]
 pub struct Named {
     pub refusal: u8,
     pub first: usize,

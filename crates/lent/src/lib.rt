@@ -1,6 +1,8 @@
 // What every call has in common: the lengths of the memories that a caller lends, the numbers of
 // refusal and their order, the answer of a call that reads a byte, and a copy of bytes. Document 01, "Lent
 // memory" and "Numbers of refusal"; document 02 has the numbers from 7 up.
+#![tactic(auto)]
+
 ghost use Rattle.std.specs.Prelude.{◌≡◌, cond, ◌&&◌, eqb, length};
 ghost use Rattle.lent.specs.Refusals.{accepted};
 ghost use Rattle.lent.specs.Answer.{byte_read, read_refused};
@@ -94,7 +96,7 @@ pub fn three_lengths(a: usize, x: usize, b: usize, y: usize, c: usize, z: usize)
 
 // The answer of a call that reads a byte: the byte, or a refusal beside which the byte is 0.
 #[repr(C)]
-#[derive(Drop)]
+#[derive(Clone, Copy)]
 pub struct ByteRead {
     pub refusal: u8,
     pub byte: u8,

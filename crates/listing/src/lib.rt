@@ -1,5 +1,7 @@
 // The row lister's text: a line for each row of a picture. Document 01, "Screens and ports worked
 // out".
+#![tactic(auto)]
+
 ghost use Rattle.std.specs.Prelude.{◌+◌, ◌*◌, ◌≤◌, ◌<◌, ◌≡◌, length, take};
 ghost use Rattle.lent.specs.Lengths.{picture_bytes};
 ghost use Rattle.chain.specs.Chain.{rows};
@@ -22,7 +24,7 @@ pub const TEXT_BYTES: usize = HEADING_MOST + chain::ROWS * LINE_MOST;
 
 // What listing answers: how many bytes of text there are, and the drawing's answer, of which the text says all but the
 // wild row.
-#[derive(Drop)]
+#[derive(Clone, Copy)]
 pub struct Listed {
     pub bytes: usize,
     pub drawn: Drawn,

@@ -1,5 +1,7 @@
 // The machine's own state, a struct by value. Document 01, "Ports": what the ports set, how it is at
 // power-up, and the vertical tick. Document 02, ticket 2: whether the Z80 runs; ticket 3: the watchdog.
+#![tactic(auto)]
+
 ghost use Rattle.std.specs.Prelude.{◌≡◌};
 ghost use Rattle.machine.specs.Power.{power_up, vertical_tick};
 ghost use Rattle.machine.specs.Settings.{columns, scroll_latch, z80_runs, blanked, graphics};
@@ -10,7 +12,7 @@ ghost use Rattle.machine.specs.Stopped.{stop_of_8088, stop_of_z80};
 const WATCH_TICKS: u8 = 128;
 
 #[repr(C)]
-#[derive(Drop)]
+#[derive(Clone, Copy)]
 pub struct Machine {
     // 132 columns, else 80.
     pub columns132: bool,
@@ -38,7 +40,7 @@ pub struct Machine {
 // The answer of a write to a port: the machine afterwards, which is the machine before where the
 // write is refused.
 #[repr(C)]
-#[derive(Drop)]
+#[derive(Clone, Copy)]
 pub struct Written {
     pub refusal: u8,
     pub machine: Machine,

@@ -1,5 +1,7 @@
 // The marks of a store: one number, whose bit r says of row r that its record changed. Document 01,
 // "The picture".
+#![tactic(auto)]
+
 ghost use Rattle.std.specs.Prelude.{◌^◌, ◌<◌, ◌≡◌};
 ghost use Rattle.marks.specs.Marks.{bit_set, marked, joined};
 

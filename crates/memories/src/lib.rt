@@ -1,4 +1,6 @@
 // What the two processors see of the lent memories. Document 01, "Lent memory"; document 02, tickets 2 and 3.
+#![tactic(auto)]
+
 pub mod view8088;
 pub mod viewz80;
 

@@ -15,7 +15,7 @@ const ATTRIBUTE_AT: usize = 0xEF000;
 const ATTRIBUTE_END: usize = 0xF0000;
 
 // The memory that an 8088 address names, with the place in it.
-#[derive(Drop)]
+#[derive(Clone, Copy)]
 pub enum Seen {
     Shared(usize),
     Screen(usize),

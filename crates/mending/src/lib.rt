@@ -1,5 +1,7 @@
 // The store of a byte by the 8088 with a picture lent, which keeps the picture. Document 01, "The
 // picture".
+#![tactic(auto)]
+
 ghost use Rattle.std.specs.Prelude.{◌≤◌, ◌≡◌, not, length};
 ghost use Rattle.lent.specs.Lengths.{screen_bytes, attribute_bytes, picture_bytes};
 ghost use Rattle.chain.specs.Chain.{chain, rows};
@@ -13,7 +15,7 @@ use readers::Reader;
 
 // The answer of the store: bit r of the marks is set when record r changed.
 #[repr(C)]
-#[derive(Drop)]
+#[derive(Clone, Copy)]
 pub struct Stored {
     pub refusal: u8,
     pub marks: u32,

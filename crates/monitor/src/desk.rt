@@ -52,7 +52,7 @@ pub const LINES_BYTES: usize = lent::LIST_BYTES + 1;
 
 pub const INDEX_BYTES: usize = lent::INDEX_BYTES + 1;
 
-#[derive(Drop)]
+#[derive(Clone, Copy)]
 pub struct Desk {
     pub machine: Machine,
     pub viewers: Viewers,

@@ -11,7 +11,7 @@ pub const TEXT_BYTES: usize = LINE_BYTES + 1;
 
 // Where lines are read, the file that an argument names or standard input, and the bytes of the last line.
 // Argument 0 stands for standard input.
-#[derive(Drop)]
+#[derive(Clone, Copy)]
 pub struct Source {
     pub fd: i32,
     pub argument: usize,
@@ -20,7 +20,7 @@ pub struct Source {
     pub over: bool,
 }
 
-#[derive(Drop)]
+#[derive(Clone, Copy)]
 struct Typed {
     bytes: usize,
     // There was no line any more.

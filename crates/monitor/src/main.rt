@@ -1,5 +1,7 @@
 // The monitor: calls of the library typed as lines of text, one call a line, on memories and a machine that it
 // keeps from power-up. It reads the files that its arguments name, one after the other, or standard input.
+#![tactic(auto)]
+
 mod calls;
 mod desk;
 mod forms;

@@ -1,5 +1,7 @@
 // The picture: a record for each row of the chain, drawn afresh from memory. Document 01, "The
 // picture".
+#![tactic(auto)]
+
 ghost use Rattle.std.specs.Prelude.{◌≤◌, ◌≡◌, length};
 ghost use Rattle.lent.specs.Lengths.{screen_bytes, attribute_bytes, picture_bytes};
 ghost use Rattle.chain.specs.Chain.{chain};
@@ -14,7 +16,7 @@ use machine::Machine;
 // The answer of the drawing call: the bytes of screen memory that the walk read, whether the link of any row is wild,
 // and the first such row, or 0.
 #[repr(C)]
-#[derive(Drop)]
+#[derive(Clone, Copy)]
 pub struct Drawn {
     pub refusal: u8,
     pub reads: u16,
@@ -23,7 +25,7 @@ pub struct Drawn {
 }
 
 // The first row whose link is wild.
-#[derive(Drop)]
+#[derive(Clone, Copy)]
 pub enum FirstWild {
     Named(u8),
     NoRow,

@@ -1,4 +1,6 @@
 // The write ports: 04 (DC011), 0A (diagnostic write), 0C and 10C (DC012). Document 01, "Ports"; document 02, ticket 3.
+#![tactic(auto)]
+
 ghost use Rattle.std.specs.Prelude.{◌≡◌};
 ghost use Rattle.diagnostic.specs.Diagnostic.{written_port};
 ghost use Rattle.ports.specs.Ports.{is_port, refusal_port, watched, write_port};

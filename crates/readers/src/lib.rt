@@ -1,5 +1,7 @@
 // The first row that reads a byte, found by a walk that draws nothing. Document 01, "The picture": "Let
 // f be the first row that reads the stored byte".
+#![tactic(auto)]
+
 ghost use Rattle.std.specs.Prelude.{◌+◌, ◌≤◌, ◌<◌, ◌≡◌, ◌++◌, length};
 ghost use Rattle.lent.specs.Lengths.{screen_bytes, attribute_bytes};
 ghost use Rattle.chain.specs.Chain.{chain, places};
@@ -11,14 +13,14 @@ use chain::{Ahead, Head, Terminator};
 use memories::Seen;
 
 // The number of a row, and what lies ahead of the walk there: ROWS where no row reads the byte.
-#[derive(Drop)]
+#[derive(Clone, Copy)]
 pub struct Reader {
     pub row: usize,
     pub ahead: Ahead,
 }
 
 // A row that was passed: whether it reads the byte, and what the chain leads to.
-#[derive(Drop)]
+#[derive(Clone, Copy)]
 struct Passed {
     reads: bool,
     next: Ahead,

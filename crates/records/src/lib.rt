@@ -1,5 +1,7 @@
 // The record of one row: its start, kind and count, and the pairs of character and attribute.
 // Document 01, "The picture".
+#![tactic(auto)]
+
 ghost use Rattle.std.specs.Prelude.{◌+◌, ◌*◌, ◌-◌, ◌≤◌, ◌<◌, ◌≡◌, ◌++◌, length, drop};
 ghost use Rattle.lent.specs.Lengths.{screen_bytes, attribute_bytes};
 ghost use Rattle.chain.specs.Chain.{chain, places};
@@ -27,7 +29,7 @@ pub const DARK: u8 = 254;
 
 // A row that was read: its head, how many cells it shows and its count; and the bytes of screen memory that it read,
 // whether its link is wild, and what the chain leads to.
-#[derive(Drop)]
+#[derive(Clone, Copy)]
 pub struct RowRead {
     pub head: Head,
     pub cells: usize,

@@ -1,5 +1,7 @@
 // The row lister: reads 8,192 bytes, a screen memory and then an attribute memory, and writes a line
 // for each row that the screen shows at 80 columns.
+#![tactic(auto)]
+
 use lent::{ATTRIBUTE_BYTES, PICTURE_BYTES, SCREEN_BYTES};
 use libc::{STDERR_FILENO, STDIN_FILENO, STDOUT_FILENO};
 use listing::TEXT_BYTES;

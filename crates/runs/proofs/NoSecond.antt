@@ -81,10 +81,10 @@ use Rattle.rainbow.proofs.watching.rainbow_store_for_viewers.Reads as c_store_fo
 use Rattle.rainbow.proofs.watching.rainbow_store_with_index_for_viewers.Reads as c_store_with_index_for_viewers
 use Rattle.rainbow.proofs.indexing.rainbow_index_readers.Reads as c_index_readers
 use Rattle.rainbow.proofs.indexing.rainbow_store_with_index.Reads as c_store_with_index
-use Rattle.rainbow.proofs.dots.rainbow_glyph_part.Reads as c_glyph_part
-use Rattle.rainbow.proofs.dots.rainbow_scan_line.Reads as c_scan_line
-use Rattle.rainbow.proofs.dots.rainbow_dots_of_line.Reads as c_dots_of_line
-use Rattle.rainbow.proofs.dots.rainbow_list_lines.Reads as c_list_lines
+use Rattle.rainbow.proofs.scan_lines.rainbow_glyph_part.Reads as c_glyph_part
+use Rattle.rainbow.proofs.scan_lines.rainbow_scan_line.Reads as c_scan_line
+use Rattle.rainbow.proofs.scan_lines.rainbow_dots_of_line.Reads as c_dots_of_line
+use Rattle.rainbow.proofs.scan_lines.rainbow_list_lines.Reads as c_list_lines
 use Rattle.rainbow.proofs.screen.rainbow_explain.Reads as c_explain
 use Rattle.runs.specs.Once.{Once, AnswersOnce}
 

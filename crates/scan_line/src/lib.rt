@@ -1,4 +1,6 @@
 // A scan line of a row of the picture, as the tube shows it. Document 01, "Dots".
+#![tactic(auto)]
+
 ghost use Rattle.std.specs.Prelude.{◌-◌, ◌*◌, ◌≤◌, ◌<◌, ◌≡◌, ◌++◌, length, take, replicate};
 ghost use Rattle.lent.specs.Lengths.{glyph_bytes, line_bytes};
 ghost use Rattle.records.specs.Record.{record_bytes};

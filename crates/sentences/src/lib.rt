@@ -1,5 +1,7 @@
 // The answer why a cell shows what it shows, as two sentences: one about the cell, and one about the chain that led to
 // its row. Document 02, ticket 6.
+#![tactic(auto)]
+
 mod cell;
 mod links;
 mod words;
@@ -22,7 +24,7 @@ const CLAUSE_MOST: usize = 59;
 pub const TEXT_BYTES: usize = SENTENCE_MOST + chain::ROWS * CLAUSE_MOST;
 
 // What saying answers: by what the explanation is refused, and how many bytes of text there are.
-#[derive(Drop)]
+#[derive(Clone, Copy)]
 pub struct Said {
     pub refusal: u8,
     pub bytes: usize,

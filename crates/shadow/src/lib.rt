@@ -1,5 +1,7 @@
 // The NVM's shadow, read and written by place, by the 8088. Document 01, "Lent memory", second paragraph; document
 // 02, ticket 3. The copies between shadow and NVM are the port 0A's, in the crate diagnostic.
+#![tactic(auto)]
+
 ghost use Rattle.std.specs.Prelude.{◌≡◌};
 ghost use Rattle.shadow.specs.Shadow.{refused_place, read_shadow, write_shadow, written_shadow};
 

@@ -1,5 +1,7 @@
 // Shows the whole tube: reads 12,288 bytes, a screen memory, an attribute memory and a glyph table, and
 // writes a picture of what the screen shows as a PGM of four greys. Each argument is a setting.
+#![tactic(auto)]
+
 mod image;
 mod settings;
 

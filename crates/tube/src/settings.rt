@@ -2,7 +2,7 @@
 use lent::{NVM_BYTES, SHADOW_BYTES};
 use machine::Machine;
 
-#[derive(Drop)]
+#[derive(Clone, Copy)]
 pub struct Settings {
     pub columns132: bool,
     pub reverse: bool,
@@ -15,7 +15,7 @@ pub struct Settings {
     pub wrong: bool,
 }
 
-#[derive(Drop)]
+#[derive(Clone, Copy)]
 enum Latch {
     Asked(u8),
     NotAsked,

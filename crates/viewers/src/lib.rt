@@ -1,5 +1,7 @@
 // The eight viewers of one screen: the marks that wait for each, and the stores and the drawing that serve
 // them. Document 02, ticket 7, and ticket 8 for the store with an index.
+#![tactic(auto)]
+
 ghost use Rattle.std.specs.Prelude.{◌≡◌};
 ghost use Rattle.viewers.specs.Viewers.{start, added, ask};
 ghost use Rattle.viewers.specs.Serving.{drawn_serving, draw_for_viewers, stored_serving, store_for_viewers};
@@ -17,14 +19,14 @@ const ALL_ROWS: u32 = 0x01FFFFFF;
 // The marks that wait for each viewer. A caller keeps them, hands them to each call that serves viewers, and keeps what
 // comes back.
 #[repr(C)]
-#[derive(Drop)]
+#[derive(Clone, Copy)]
 pub struct Viewers {
     pub waiting: [u32; VIEWERS],
 }
 
 // What a viewer is told: the marks that waited for it. Refused, there are none, and the viewers are as they were.
 #[repr(C)]
-#[derive(Drop)]
+#[derive(Clone, Copy)]
 pub struct Asked {
     pub refusal: u8,
     pub marks: u32,
@@ -33,7 +35,7 @@ pub struct Asked {
 
 // The answer of a drawing that serves viewers.
 #[repr(C)]
-#[derive(Drop)]
+#[derive(Clone, Copy)]
 pub struct DrawnForViewers {
     pub drawn: Drawn,
     pub viewers: Viewers,
@@ -41,7 +43,7 @@ pub struct DrawnForViewers {
 
 // The answer of a store that serves viewers.
 #[repr(C)]
-#[derive(Drop)]
+#[derive(Clone, Copy)]
 pub struct StoredForViewers {
     pub stored: Stored,
     pub viewers: Viewers,

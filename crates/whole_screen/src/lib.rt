@@ -1,5 +1,7 @@
 // The whole screen: which scan of which row each of its lines shows, as the scroll latch says. Document
 // 02, ticket 5.
+#![tactic(auto)]
+
 ghost use Rattle.std.specs.Prelude.{◌+◌, ◌-◌, ◌/◌, ◌%◌, ◌≤◌, ◌<◌, ◌≡◌, length};
 ghost use Rattle.lent.specs.Lengths.{picture_bytes, list_bytes};
 ghost use Rattle.chain.specs.Chain.{rows};

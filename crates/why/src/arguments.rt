@@ -8,7 +8,7 @@ const LAST_COLUMN: usize = 131;
 // More than three digits can say, so no row and no column: what stands for a word that is no number.
 const NO_NUMBER: usize = 1000;
 
-#[derive(Drop)]
+#[derive(Clone, Copy)]
 pub enum Asked {
     Cell {
         row: usize,

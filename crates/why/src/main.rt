@@ -1,5 +1,7 @@
 // Says in words why a cell of the screen shows what it shows: reads 8,192 bytes, a screen memory and then an attribute
 // memory, and writes two sentences. The arguments are the cell's row and column, and 132 for a screen of 132 columns.
+#![tactic(auto)]
+
 mod arguments;
 
 ghost use Rattle.std.specs.Prelude.{◌≡◌, cond};

@@ -3,8 +3,8 @@ use borrow.Author.Tests.{eq-eqb, ne_eqb}
 use borrow.Author.Rules.{rules}
 use Rattle.glyphs.specs.Glyphs.{Slice}
 use Rattle.rainbow.proofs.Part.{placed}
-use Rattle.rainbow.proofs.dots.rainbow_glyph_part.Statement.{statement}
-use Rattle.rainbow.proofs.dots.rainbow_glyph_part.Tie as tie
+use Rattle.rainbow.proofs.scan_lines.rainbow_glyph_part.Statement.{statement}
+use Rattle.rainbow.proofs.scan_lines.rainbow_glyph_part.Tie as tie
 
 returns : tie.Need-returns
 returns c =

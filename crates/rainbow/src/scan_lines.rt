@@ -9,7 +9,7 @@ use machine::Machine;
 
 // Where a code's bytes stand in the table, and how many there are. A reference cannot be handed to C.
 #[repr(C)]
-#[derive(Drop)]
+#[derive(Clone, Copy)]
 pub struct PartPlace {
     pub refusal: u8,
     pub at: usize,
