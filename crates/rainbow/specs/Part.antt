@@ -2,7 +2,7 @@
 -- "Dots" and "Numbers of refusal".
 use Rattle.std.specs.Prelude.{ℕ, ◌<◌, ◌≡◌, List, length, take, drop}
 use Rattle.glyphs.specs.Glyphs.{glyph_part, part_start, part_refusal}
-use Rattle.rainbow.specs.declared.dots.PartPlace.{PartPlace}
+use Rattle.rainbow.specs.declared.scan_lines.PartPlace.{PartPlace}
 
 -- "code times 16", "the sixteen scan bytes of a code"; refused, "all other numbers 0 .. and a part of no bytes"
 unfoldable pub part_place : (table : List ℕ) → (code : ℕ) → PartPlace
