@@ -182,6 +182,15 @@ fn texts(root: &Path, names: &[&str]) -> io::Result<Vec<(String, String)>> {
     Ok(texts)
 }
 
+/// The struct that a text declares at its beginning, after a derive.
+fn declared(text: &str) -> Option<&str> {
+    let text = match text.strip_prefix("#[derive(") {
+        Some(rest) => rest.split_once(")]\n")?.1,
+        None => text,
+    };
+    Some(text.strip_prefix("pub struct ")?.split_once(' ')?.0)
+}
+
 /// A function that the header has and the crate has not, or the other way round.
 fn not_in_both<'a>(header: &'a str, functions: &[c::Function<'a>]) -> Option<&'a str> {
     let there = prototypes::declared(header);
@@ -207,8 +216,8 @@ fn for_c(root: &Path, tree: &Tree) -> io::Result<(String, String)> {
     let texts = texts(root, &libraries)?;
     let mut structs: Vec<(&str, &str)> = Vec::new();
     for (_, text) in &texts {
-        let after = text.split("#[repr(C)]\npub struct ").skip(1);
-        structs.extend(after.filter_map(|rest| Some((rest.split_once(' ')?.0, text.as_str()))));
+        let after = text.split("#[repr(C)]\n").skip(1);
+        structs.extend(after.filter_map(|rest| Some((declared(rest)?, text.as_str()))));
     }
     let machine = structs.iter().find(|(name, _)| *name == "Machine");
     let (_, machine) = machine.ok_or_else(|| wrong("no crate declares the machine"))?;

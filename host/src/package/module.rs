@@ -57,7 +57,7 @@ fn needs_its_caller(lines: &[code::Line]) -> bool {
         && lines
             .iter()
             .take_while(head)
-            .any(|line| line.ghost && line.text.trim_start().starts_with("requires {"))
+            .any(|line| line.ghost && code::is_clause(line.text.trim_start(), "requires"))
 }
 
 fn is_function(line: &str) -> bool {
@@ -119,7 +119,7 @@ impl<'a> Writer<'a> {
             self.begin(uses);
         }
         self.flush(!line.trim().is_empty());
-        if line == "#[no_mangle]" {
+        if line == "#[unsafe(no_mangle)]" {
             return;
         }
         if line.is_empty() && self.out.last().map_or(true, String::is_empty) {
@@ -191,6 +191,8 @@ mod tests {
 
     const FILE: &str = "\
 // A part of the machine.
+#![tactic(auto)]
+
 ghost use a.{b};
 use lent::ByteRead;
 
@@ -201,16 +203,21 @@ const A: [u8; 2] = [
 
 // Of two bytes.
 #[repr(C)]
+#[derive(Clone, Copy)]
 pub struct S {
     // The first.
     pub a: u8,
 }
 
 // One more.
+#[tactic(
+    auto,
+    unfolding(crate::specs::M::g),
+)]
 pub fn f(a: u8) -> u8
-    requires { ⌜ a ≡ Unit {0} ⌝ }
-    ensures { λ r. ⌜ r
-        ≡ a ⌝ }
+    requires unit { a ≡ Unit {0} }
+    ensures { result
+        ≡ a }
 {
     // Less.
     other::g(a) + lent::ONE

@@ -21,8 +21,7 @@ impl Tree {
         let text = fs::read_to_string(root.join("crates.txt"))?;
         let lines = text.lines().filter(|line| !line.starts_with('#'));
         let listed: Vec<(&str, Vec<&str>)> = lines
-            .filter_map(|line| line.split_once(':'))
-            .map(|(name, needs)| (name, needs.split_whitespace().collect()))
+            .filter_map(listed)
             .collect();
         let mut crates = Vec::new();
         for name in names {
@@ -50,6 +49,13 @@ impl Tree {
         }
         made
     }
+}
+
+/// The crate that a line of crates.txt lists, `NAME: NEED ..` or `NAME staticlib: NEED ..`, and what it needs.
+pub fn listed(line: &str) -> Option<(&str, Vec<&str>)> {
+    let (name, needs) = line.split_once(':')?;
+    let name = name.split_whitespace().next()?;
+    Some((name, needs.split_whitespace().collect()))
 }
 
 fn visit(name: &str, listed: &[(&str, Vec<&str>)], crates: &mut Vec<Crate>) {
