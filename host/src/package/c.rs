@@ -46,8 +46,9 @@ fn parameters<'a>(text: &'a str, tokens: &[Token], close: &str) -> Vec<Parameter
 fn remark(text: &str, at: usize) -> Vec<&str> {
     let above = code::lines(text);
     let above = &above[..text[..at].matches('\n').count()];
-    let is_above =
-        |line: &&code::Line| line.ghost || line.text.starts_with("//") || line.text.starts_with("#[");
+    let is_above = |line: &&code::Line| {
+        line.ghost || line.text.starts_with("//") || line.text.starts_with("#[")
+    };
     let lines = above.iter().rev().take_while(is_above);
     let mut lines: Vec<&str> = lines
         .map(|line| line.text)
@@ -208,7 +209,10 @@ fn declared(kind: &str, rainbow: &[(String, String)]) -> Option<String> {
 
 /// The crate that a line uses a type of, alone or among others.
 fn used<'a>(line: &'a str, kind: &str) -> Option<&'a str> {
-    let (from, names) = line.strip_prefix("use ")?.strip_suffix(';')?.split_once("::")?;
+    let (from, names) = line
+        .strip_prefix("use ")?
+        .strip_suffix(';')?
+        .split_once("::")?;
     let names = names.strip_prefix('{').unwrap_or(names);
     let names = names.strip_suffix('}').unwrap_or(names);
     names.split(", ").any(|name| name == kind).then_some(from)

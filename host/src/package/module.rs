@@ -2,6 +2,7 @@
 //! comments, and what Rust has to be told beside it is added outside of the functions: the modules that the file names,
 //! that structs and enums are values that are copied, and which functions are parts of the loops that call them.
 use crate::rattle::code::{self, Token};
+use crate::rattle::kit;
 
 /// The text of a module. `uses` are the lines that name other modules, `in_loops` the functions that become parts of the
 /// loops that call them.
@@ -183,6 +184,16 @@ pub fn named<'a>(text: &str, needs: &'a [String]) -> Vec<&'a str> {
     };
     let named = needs.iter().filter(is_named);
     named.map(String::as_str).collect()
+}
+
+/// What the code of a file names of the kit's std that Rust has from console.
+pub fn of_console(text: &str) -> Vec<&str> {
+    let tokens = code::tokens(text);
+    let words: Vec<&str> = tokens
+        .iter()
+        .map(|token| &text[token.span.clone()])
+        .collect();
+    kit::names(&words)
 }
 
 #[cfg(test)]

@@ -161,10 +161,30 @@ pub struct Compared {
     pub tokens: usize,
 }
 
+/// What stands at the end of a program's first file beside its source: a `main` that takes nothing, and calls the one
+/// that is proved, which has another name.
+const RENAMED: [&str; 2] = ["fn", "proved_main"];
+const CALLER: &str = "fn main() -> std::io::Result<()> { proved_main(HostRuntime) }";
+
+/// The tokens without that `main`, and the other one by its own name.
+fn without_caller(mut made: Vec<Token<'_>>) -> Vec<Token<'_>> {
+    let caller: Vec<&str> = tokens(CALLER).iter().map(|token| token.text).collect();
+    let rest = made.len().saturating_sub(caller.len());
+    if starts(&made[rest..], &caller) {
+        made.truncate(rest);
+        for at in 1..rest {
+            if starts(&made[at - 1..], &RENAMED) {
+                made[at].text = "main";
+            }
+        }
+    }
+    made
+}
+
 /// Compares a file of the package with its source. The source may begin as what is added does, so each number of
 /// added parts is tried.
 pub fn compare(source: &str, made: &str) -> Result<Compared, String> {
-    let (source, made) = (tokens(source), tokens(made));
+    let (source, made) = (tokens(source), without_caller(tokens(made)));
     let mut begin = 0;
     let mut furthest = (0, String::new());
     loop {
@@ -336,6 +356,23 @@ pub extern \"C\" fn f(a: u8) -> u8
         let made = module(source, &[], &["f"]);
         assert_eq!(made, "const A: u8 = 1;\n\n#[inline(always)]\nfn f() {}\n");
         assert!(compare(source, &made).is_ok());
+    }
+
+    #[test]
+    fn a_main_that_takes_the_system() {
+        let source = "fn main(rt: HostRuntime) -> io::Result<()> {\n    f(&rt)\n}\n";
+        let made = source.replacen("main", "proved_main", 1) + CALLER;
+        assert!(compare(source, &made).is_ok());
+        for (old, new) in [
+            ("    f(&rt)", "    g(&rt)"),
+            ("fn proved_main", "fn other_main"),
+            ("proved_main(HostRuntime)", "f(&HostRuntime)"),
+            ("{ proved_main", "{ f(); proved_main"),
+        ] {
+            let other = made.replacen(old, new, 1);
+            assert_ne!(other, made, "{old}");
+            assert!(compare(source, &other).is_err(), "{old} -> {new}");
+        }
     }
 
     #[test]

@@ -1,4 +1,5 @@
 //! The code in a file of Rattle: what the prover alone reads taken away, the rest as tokens.
+use super::kit;
 use std::ops::Range;
 
 #[derive(Clone, Copy, PartialEq, Debug)]
@@ -98,15 +99,32 @@ pub fn lines(text: &str) -> Vec<Line<'_>> {
     lines
 }
 
-/// The file as Rust: without what the kit alone reads; structs and enums are values that are copied.
+/// What a file has to be told of crate console, whose names stand for some of the kit's std.
+fn uses(text: &str) -> String {
+    let tokens = tokens(text);
+    let words: Vec<&str> = tokens
+        .iter()
+        .map(|token| &text[token.span.clone()])
+        .collect();
+    match kit::names(&words).join(", ") {
+        names if names.is_empty() => names,
+        names => format!("use console::{{{names}}};\n"),
+    }
+}
+
+/// The file as Rust: without what the kit alone reads; structs and enums are values that are copied; a `main` that
+/// takes nothing.
 pub fn rust(text: &str) -> String {
-    let mut code = String::new();
+    let mut code = uses(text);
     let mut at = 0;
     for part in ghost_parts(text) {
         code.push_str(&text[at..part.start]);
         at = part.end;
     }
     code.push_str(&text[at..]);
+    if code.contains(kit::MAIN) {
+        code = code.replacen(kit::MAIN, kit::RENAMED, 1) + kit::CALLER;
+    }
     let value = |line: &str| {
         let line = line.strip_prefix("pub ").unwrap_or(line);
         line.starts_with("struct ") || line.starts_with("enum ")
