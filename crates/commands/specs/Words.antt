@@ -1,5 +1,5 @@
 -- The words of a line: the longest runs of bytes that are no blanks.
-use Rattle.std.specs.Prelude.{ℕ, List, [], ◌∷◌, ◌++◌, Bool, true, false, cond, not, ◌||◌, length, get_or, eqb, ltb}
+use Rattle.std.specs.Prelude.{ℕ, List, [], ◌∷◌, ◌++◌, Bool, false, cond, not, ◌||◌, length, get_or, eqb, ltb}
 
 -- a space, a tab, a carriage return
 unfoldable pub blank : (byte : ℕ) → Bool

@@ -1,11 +1,10 @@
 -- A load leaves the latch under 16.
-use Prim.Native.Nat.{ℕ, ◌≤◌, ◌<◌}
+use Prim.Native.Nat.{◌<◌}
 use mathlib.Core.Path.{◌≡◌, refl}
 use mathlib.Core.Bool.{Bool, true, false}
 use native.Mathlib.Omega.{arith}
 use lib.Dec.{leb}
 use borrow.Author.Tests.{leb-true, le-leb, lt-leb}
-use Rattle.machine.specs.declared.Machine.{Machine}
 use Rattle.dc012.specs.Dc012.{write_dc012, LoadLeavesUnder16}
 
 pub load_leaves_under_16 : LoadLeavesUnder16

@@ -4,7 +4,7 @@ use mathlib.Core.Path.{◌≡◌, refl, sym, ap, ◌∙◌}
 use mathlib.Core.List.{List, [], ◌∷◌, map}
 use native.Mathlib.Numerals.{add-one}
 use native.Mathlib.Omega.{arith}
-use lib.ListN.{length, get_or, set, replicate, length-set, length-map}
+use lib.ListN.{length, get_or, set, replicate, length-set}
 
 -- a map over a list that has come to a place: the elements ahead of it are changed, the others are not yet
 pub partly : (ℕ → ℕ) → List ℕ → (place : ℕ) → List ℕ

@@ -5,7 +5,6 @@ use mathlib.Core.Path.{◌≡◌, refl, subst, sym, ◌∙◌}
 use mathlib.Core.List.{List}
 use mathlib.Core.Bool.{Bool, true, false, not, cond, ◌&&◌, and-false, and-eq-true_iff, true≢false}
 use native.Mathlib.Omega.{arith}
-use lib.ListN.{length}
 use lib.Dec.{leb, eqb}
 use borrow.Author.Tests.{not-false, eqb-true, le-leb, lt-leb, leb-true, lt-ltb, le-ltb}
 use Rattle.lent.specs.Lengths.{shared_bytes, screen_bytes, attribute_bytes, private_bytes}

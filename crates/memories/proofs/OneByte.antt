@@ -2,7 +2,7 @@
 use Prim.Native.Nat.{ℕ, ◌-◌, ◌<◌}
 use mathlib.Core.Path.{◌≡◌, refl}
 use mathlib.Core.List.{List}
-use mathlib.Core.Bool.{Bool, true, false, not, cond, true≢false}
+use mathlib.Core.Bool.{Bool, true, false, not, cond}
 use native.Mathlib.Omega.{arith}
 use lib.ListN.{length, get_or, set, length-set}
 use lib.Seq.{get_or-set_same, get_or-set_other}
@@ -11,10 +11,9 @@ use borrow.Author.Tests.{eqb-true, eqb-false, ltb-true}
 use Rattle.lent.specs.Lengths.{shared_bytes, private_bytes, screen_bytes, attribute_bytes}
 use Rattle.memories.specs.View8088.{within, seen_8088, store_seen, Stored8088}
 use Rattle.memories.specs.ViewZ80.{refusal_z80, shared_from, is_private, StoredZ80, stored_z80}
-use Rattle.memories.specs.declared.view8088.Seen.{Seen}
 use Rattle.memories.specs.declared.view8088.Seen.TheVariants.{Shared, Screen, Attribute, Nowhere}
 use Rattle.memories.specs.OneByte.{OnlyAt, ChangesTheOneByte, ChangesOneByte}
-use Rattle.memories.proofs.Laws.{told, over, under, lent_8088, lent_z80, is_accepted, accepted_right}
+use Rattle.memories.proofs.Laws.{told, lent_8088, lent_z80, is_accepted, accepted_right}
 
 private_below : (a : ℕ) → is_private a ≡ true → a < shared_from
 unfolding is_private

@@ -9,7 +9,7 @@ use lib.Seq.{take_all}
 use borrow.Rule.Slice.PartMut.{put_mid}
 use Rattle.lent.specs.Lengths.{picture_bytes}
 use Rattle.chain.specs.Chain.{Chain, first, rows, row_at}
-use Rattle.chain.specs.Reading.{reads, reads_to, walk_reads, reads_at_132}
+use Rattle.chain.specs.Reading.{reads_to, walk_reads, reads_at_132}
 use Rattle.chain.specs.Inner.{row_ahead, ahead_of}
 use Rattle.chain.specs.declared.Ahead.{Ahead}
 use Rattle.chain.specs.declared.Ahead.TheVariants.{Row}

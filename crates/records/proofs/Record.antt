@@ -7,7 +7,6 @@ use native.Mathlib.Omega.{arith}
 use lib.Dec.{eqb}
 use borrow.Author.Tests.{eqb-true, eqb-false}
 use Rattle.chain.specs.Chain.{byte_at, capacity, first_ff, terminator, ended, row_from}
-use Rattle.chain.specs.declared.Head.{Head}
 use Rattle.chain.specs.declared.Terminator.{Terminator}
 use Rattle.chain.specs.declared.Terminator.TheVariants.{After, Missing}
 use Rattle.records.specs.Record.{cells_shown, FfIsNoCell}
