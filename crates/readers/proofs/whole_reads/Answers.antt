@@ -1,0 +1,8 @@
+use Rattle.readers.proofs.Laws.{among_both, from_over}
+use Rattle.readers.proofs.whole_reads.Goals as goal
+
+pub returns-then-among : goal.returns-then-among
+returns-then-among c = rw (c.in-Attribute.is, among_both, ← c.among-in-Attribute.ensures, c.if-among.true)
+
+pub returns-else-among : goal.returns-else-among
+returns-else-among c = rw (c.in-Attribute.is, among_both, ← c.among-in-Attribute.ensures, c.if-among.false, ← from_over) c.among-else-among.ensures
