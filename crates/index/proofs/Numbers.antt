@@ -1,14 +1,14 @@
 -- What an entry comes to when every row has written its number to all that it reads: the first row that reads its place.
 use Prim.Native.Nat.{ℕ, zero, suc, ◌+◌, ◌≤◌, ◌<◌}
-use mathlib.Core.Path.{◌≡◌, refl, sym, ap, ◌∙◌}
+use mathlib.Core.Path.{◌≡◌, refl, ◌∙◌}
 use mathlib.Core.Bool.{Bool, true, false, cond}
 use native.Mathlib.Omega.{arith}
-use lib.Dec.{eqb, ltb}
+use lib.Dec.{ltb}
 use borrow.Author.Tests.{lt-ltb, le-ltb, ne_eqb, ltb-true, ltb-false}
 use Rattle.chain.specs.Chain.{Chain, rows, row_at}
 use Rattle.chain.specs.First.{first_that}
 use Rattle.readers.specs.Readers.{row_reads}
-use Rattle.index.specs.Index.{no_row, seen_at, entry_of}
+use Rattle.index.specs.Index.{no_row, seen_at}
 use Rattle.index.specs.Inner.{forgotten, number_put, numbered_to}
 
 -- the first of one row more that passes a test

@@ -1,6 +1,6 @@
 -- The walk that writes the rows' numbers: what a row that was read reads, what holds when the walk comes to a row, how it
 -- begins, goes on and ends.
-use Prim.Native.Nat.{ℕ, zero, suc, ◌+◌, ◌-◌, ◌%◌, ◌≤◌, ◌<◌}
+use Prim.Native.Nat.{ℕ, zero, suc, ◌+◌, ◌-◌, ◌≤◌, ◌<◌}
 use mathlib.Core.Path.{◌≡◌, refl, sym, ap, ◌∙◌}
 use mathlib.Core.List.{List, ◌++◌, append-nil}
 use mathlib.Core.Bool.{false, cond, true≢false}
@@ -9,7 +9,6 @@ use native.Mathlib.Omega.{arith}
 use lib.ListN.{length, get_or, replicate, length-replicate, get_or-replicate}
 use lib.Dec.{ltb}
 use Rattle.lent.specs.Lengths.{index_bytes}
-use Rattle.memories.specs.declared.view8088.Seen.{Seen}
 use Rattle.chain.specs.Chain.{Chain, Row as ARow, Whole, Torn, Dark, places, capacity, first, next, rows, row_at}
 use Rattle.chain.specs.Reading.{from, screen_read, attribute_read, reads}
 use Rattle.chain.specs.Inner.{row_ahead, ahead_of}

@@ -1,13 +1,13 @@
 -- A row's number is written to all that it reads: places from a start on, past the end of memory too, in either half of
 -- the index.
 use Prim.Native.Nat.{ℕ, ◌+◌, ◌-◌, ◌%◌, ◌≤◌, ◌<◌, min}
-use mathlib.Core.Path.{◌≡◌, refl, sym, ap, ◌∙◌}
-use mathlib.Core.List.{List, ◌++◌, map}
+use mathlib.Core.Path.{◌≡◌, refl, sym, ◌∙◌}
+use mathlib.Core.List.{List, map}
 use mathlib.Core.Bool.{Bool, true, false, cond, ◌&&◌, ◌||◌}
 use native.Mathlib.Omega.{arith}
 use lib.ListN.{length}
 use lib.Dec.{eqb, ltb, leb}
-use borrow.Author.Tests.{lt-ltb, le-ltb, ltb-true, ltb-false, le-leb, lt-leb, leb-true, leb-false, eqb-true, eqb-false}
+use borrow.Author.Tests.{lt-ltb, le-ltb, ltb-true, ltb-false, le-leb, lt-leb, leb-true, leb-false}
 use borrow.Rule.Slice.PartMut.{mid_of, put_mid, mid_len, same_len_mid}
 use Rattle.lent.specs.Lengths.{screen_bytes, index_bytes}
 use Rattle.chain.specs.Chain.{places}
@@ -15,7 +15,7 @@ use Rattle.chain.specs.Reading.{from}
 use Rattle.records.specs.declared.RowRead.{RowRead}
 use Rattle.readers.specs.Readers.{among}
 use Rattle.readers.proofs.Laws.{offset, among-from, among_both}
-use Rattle.index.specs.Index.{no_row, seen_at}
+use Rattle.index.specs.Index.{no_row}
 use Rattle.index.specs.Inner.{leads_on, lower, unless_numbered, Changed, read_at}
 use Rattle.index.proofs.Changes.{inside, all_changed, same_changed, both_changed, part_changed}
 

@@ -1,7 +1,7 @@
 -- The list of a fresh picture: the statements of specs/Fresh.antt.
 use Prim.Native.Nat.{ℕ, zero, suc, ◌+◌, ◌-◌, ◌≤◌, ◌<◌}
-use mathlib.Core.Path.{◌≡◌, refl, sym, ap, subst, ◌∙◌}
-use mathlib.Core.Bool.{not, cond, ◌||◌}
+use mathlib.Core.Path.{◌≡◌, refl, sym, ap, subst}
+use mathlib.Core.Bool.{not}
 use native.Mathlib.Nat.{mod-eq_of_lt, mod-lt}
 use native.Mathlib.Omega.{arith}
 use Rattle.chain.specs.Chain.{Chain, Row, Whole, Torn, Dark, byte_at, first, link, rows, terminator, ended, row_from, next, row_at}

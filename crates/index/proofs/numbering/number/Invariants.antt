@@ -1,0 +1,11 @@
+use Prim.Native.Nat.{◌-◌}
+use lib.ListN.{length}
+use Rattle.lent.proofs.Maps.{Mapping}
+use Rattle.index.specs.Inner.{lower}
+use Rattle.index.proofs.numbering.number.Given as goal
+
+abbrev pub invariant-loop-at : goal.invariant-loop-at
+invariant-loop-at l = Mapping (lower l.row) l.initial.entries l.entries l.at
+
+abbrev pub decreases-loop-at : goal.decreases-loop-at
+decreases-loop-at l = length l.initial.entries - l.at
