@@ -117,6 +117,7 @@ png: model programs
 		target/native/tube latch=$$latch < target/scroll/memories > target/scroll/$$latch.pgm || exit 1; done
 	$(MODEL)/pgm_to_png $(LATCHES:%=target/scroll/%.pgm) > docs/scroll.png
 
+# rt takes no tree with a symbolic link in it, so that librainbow.so is a second name of the file here.
 # The Cargo package. That it has the text of crates/ is checked each time.
 rust: model
 	@$(MODEL)/package . $(PACKAGE)
@@ -127,7 +128,7 @@ library: rust
 	@mkdir -p target/library
 	@cp -f target/cargo/library/release/librainbow.a target/library/librainbow.a
 	@cp -f target/cargo/library/release/librainbow.so target/library/$(SHARED)
-	@ln -sf $(SHARED) target/library/librainbow.so
+	@ln -f target/library/$(SHARED) target/library/librainbow.so
 	@echo 'target/library: librainbow.a, librainbow.so for $(MACHINE), by rustc'
 
 programs: rust
@@ -154,7 +155,7 @@ kit-library: archive
 	@cp -f target/staticlib/librainbow.a target/library-kit
 	$(CC) -shared -Wl,-soname,$(SHARED) -Wl,--whole-archive target/library-kit/librainbow.a -Wl,--no-whole-archive \
 		-o target/library-kit/$(SHARED)
-	@ln -sf $(SHARED) target/library-kit/librainbow.so
+	@ln -f target/library-kit/$(SHARED) target/library-kit/librainbow.so
 
 PREFIX ?= /usr/local
 DESTDIR ?=
