@@ -1,5 +1,5 @@
 -- P10, P11 and the character that 003 prints: scan lines of row 0, told by which of their first dots are lit.
-use Rattle.std.specs.Prelude.{ℕ, ◌*◌, ◌^◌, List, [], ◌∷◌, ◌++◌, map, Bool, false, cond, take, set, replicate, eqb}
+use Rattle.std.specs.Prelude.{ℕ, ◌*◌, ◌^◌, List, [], ◌∷◌, ◌++◌, map, Bool, cond, take, set, replicate, eqb}
 use Rattle.lent.specs.Lengths.{picture_bytes, glyph_bytes, line_bytes}
 use Rattle.machine.specs.Fields.{with_columns132, with_held}
 use Rattle.machine.specs.Power.{power_up}

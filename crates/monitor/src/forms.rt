@@ -1,6 +1,7 @@
 // The forms of the lines. H stands for a hexadecimal digit, D for a decimal one, NAME for a memory.
 use crate::{desk, input, say};
 use commands::Command;
+use std::io;
 
 // Each form is one place after the one before it, in the order of the table below. The table's length is
 // made of their number, so a form too many or too few does not compile; a test in host/ holds each name to
@@ -145,53 +146,54 @@ fn form_count() -> usize {
 }
 
 // Shows a form without the blanks after it.
-fn show(words: &[u8], form: usize) {
-    say::text(words);
-    say::trimmed(commands::form_text(&FORM_TEXTS, form));
-    say::text(b"\n");
+fn show(rt: &HostRuntime, words: &[u8], form: usize) -> io::Result<()> {
+    say::text(rt, words)?;
+    say::trimmed(rt, commands::form_text(&FORM_TEXTS, form))?;
+    say::text(rt, b"\n")
 }
 
 // Shows every form.
-pub fn help() {
+pub fn help(rt: &HostRuntime) -> io::Result<()> {
     for form in 0..form_count() {
-        show(b"  ", form);
+        show(rt, b"  ", form)?;
     }
     say::line(
+        rt,
         b"H is a hexadecimal digit, D a decimal one, and fewer will do; NAME is one of shared private \
           screen attribute glyphs nvm shadow picture line lines index",
-    );
+    )
 }
 
-fn shown_if_meant(form: usize, text: &[u8]) -> bool {
+fn shown_if_meant(rt: &HostRuntime, form: usize, text: &[u8]) -> io::Result<bool> {
     let meant = commands::is_meant(&FORM_TEXTS, form, text);
     if meant {
-        show(b"expected ", form);
+        show(rt, b"expected ", form)?;
     }
-    meant
+    Ok(meant)
 }
 
 // A line of no form: a remark is shown as it is, and of a line with no words nothing is said.
-pub fn no_form(text: &[u8]) {
+pub fn no_form(rt: &HostRuntime, text: &[u8]) -> io::Result<()> {
     if input::is_long(text) {
-        say::line(b"expected at most 200 bytes in a line");
-        return;
+        return say::line(rt, b"expected at most 200 bytes in a line");
     }
     if input::is_remark(text) {
-        say::line(text);
-        return;
+        return say::line(rt, text);
     }
     if commands::has_words(text) {
-        expected(text);
+        expected(rt, text)?;
     }
+    Ok(())
 }
 
 // Tells what was expected: the forms that begin with the line's first word.
-fn expected(text: &[u8]) {
+fn expected(rt: &HostRuntime, text: &[u8]) -> io::Result<()> {
     let mut meant = false;
     for form in 0..form_count() {
-        meant = meant | shown_if_meant(form, text);
+        meant = meant | shown_if_meant(rt, form, text)?;
     }
     if !meant {
-        say::line(b"expected one of the lines that help shows");
+        say::line(rt, b"expected one of the lines that help shows")?;
     }
+    Ok(())
 }

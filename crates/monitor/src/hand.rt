@@ -2,62 +2,69 @@
 use crate::desk::Desk;
 use crate::{calls, desk, forms, rows, say, strewn, watching};
 use commands::Command;
+use std::io;
 
-fn fill(memory: &mut [u8], byte: u8) {
+fn fill(rt: &HostRuntime, memory: &mut [u8], byte: u8) -> io::Result<()> {
     for i in 0..memory.len() {
         memory[i] = byte;
     }
-    say::line(b"filled");
+    say::line(rt, b"filled")
 }
 
-fn no_such_place() {
-    say::line(b"expected a place, or places, that the memory has");
+fn no_such_place(rt: &HostRuntime) -> io::Result<()> {
+    say::line(rt, b"expected a place, or places, that the memory has")
 }
 
-fn put(memory: &mut [u8], place: usize, byte: u8) {
+fn put(rt: &HostRuntime, memory: &mut [u8], place: usize, byte: u8) -> io::Result<()> {
     if place >= memory.len() {
-        no_such_place();
-        return;
+        return no_such_place(rt);
     }
     memory[place] = byte;
-    say::line(b"put");
+    say::line(rt, b"put")
 }
 
-fn show(memory: &[u8], from: usize, count: usize) {
+fn show(rt: &HostRuntime, memory: &[u8], from: usize, count: usize) -> io::Result<()> {
     if from > memory.len() {
-        no_such_place();
-        return;
+        return no_such_place(rt);
     }
     if count > memory.len() - from {
-        no_such_place();
-        return;
+        return no_such_place(rt);
     }
-    say::bytes(b"bytes", &memory[from..from + count]);
+    say::bytes(rt, b"bytes", &memory[from..from + count])
 }
 
-fn to_memory(desk: Desk, command: Command, memory: &mut [u8]) -> Desk {
+fn to_memory(
+    rt: &HostRuntime,
+    desk: Desk,
+    command: Command,
+    memory: &mut [u8],
+) -> io::Result<Desk> {
     let form = command.form;
     match form {
-        forms::LEND => return lend(desk, command, memory.len()),
-        forms::FILL => fill(memory, calls::byte(command.second)),
-        forms::PUT => put(memory, command.second, calls::byte(command.third)),
-        forms::BYTES => show(memory, command.second, command.third),
-        _ => strewn::strew(memory, command.second, command.third, command.fourth),
+        forms::LEND => return lend(rt, desk, command, memory.len()),
+        forms::FILL => fill(rt, memory, calls::byte(command.second))?,
+        forms::PUT => put(rt, memory, command.second, calls::byte(command.third))?,
+        forms::BYTES => show(rt, memory, command.second, command.third)?,
+        _ => strewn::strew(rt, memory, command.second, command.third, command.fourth)?,
     }
-    desk
+    Ok(desk)
 }
 
-fn lend(desk: Desk, command: Command, has: usize) -> Desk {
+fn lend(rt: &HostRuntime, desk: Desk, command: Command, has: usize) -> io::Result<Desk> {
     if command.second > has {
-        say::line(b"expected a length up to one more than the memory's own");
-        return desk;
+        say::line(
+            rt,
+            b"expected a length up to one more than the memory's own",
+        )?;
+        return Ok(desk);
     }
-    say::line(b"lent");
-    desk::with_lent(desk, command.first, command.second)
+    say::line(rt, b"lent")?;
+    Ok(desk::with_lent(desk, command.first, command.second))
 }
 
 // Obeys a line that names a memory.
 pub fn named(
+    rt: &HostRuntime,
     desk: Desk,
     command: Command,
     shared: &mut [u8; desk::SHARED_BYTES],
@@ -71,25 +78,26 @@ pub fn named(
     line: &mut [u8; desk::LINE_BYTES],
     lines: &mut [u8; desk::LINES_BYTES],
     index: &mut [u8; desk::INDEX_BYTES],
-) -> Desk {
+) -> io::Result<Desk> {
     let name = command.first;
     match name {
-        desk::SHARED => to_memory(desk, command, shared),
-        desk::PRIVATE => to_memory(desk, command, private),
-        desk::SCREEN => to_memory(desk, command, screen),
-        desk::ATTRIBUTE => to_memory(desk, command, attribute),
-        desk::GLYPHS => to_memory(desk, command, glyphs),
-        desk::NVM => to_memory(desk, command, nvm),
-        desk::SHADOW => to_memory(desk, command, shadow),
-        desk::PICTURE => to_memory(desk, command, picture),
-        desk::LINE => to_memory(desk, command, line),
-        desk::LINES => to_memory(desk, command, lines),
-        _ => to_memory(desk, command, index),
+        desk::SHARED => to_memory(rt, desk, command, shared),
+        desk::PRIVATE => to_memory(rt, desk, command, private),
+        desk::SCREEN => to_memory(rt, desk, command, screen),
+        desk::ATTRIBUTE => to_memory(rt, desk, command, attribute),
+        desk::GLYPHS => to_memory(rt, desk, command, glyphs),
+        desk::NVM => to_memory(rt, desk, command, nvm),
+        desk::SHADOW => to_memory(rt, desk, command, shadow),
+        desk::PICTURE => to_memory(rt, desk, command, picture),
+        desk::LINE => to_memory(rt, desk, command, line),
+        desk::LINES => to_memory(rt, desk, command, lines),
+        _ => to_memory(rt, desk, command, index),
     }
 }
 
 // Shows a sum of each memory, so that a change of any byte of one shows.
 pub fn sums(
+    rt: &HostRuntime,
     shared: &[u8; desk::SHARED_BYTES],
     private: &[u8; desk::PRIVATE_BYTES],
     screen: &[u8; desk::SCREEN_BYTES],
@@ -101,68 +109,69 @@ pub fn sums(
     line: &[u8; desk::LINE_BYTES],
     lines: &[u8; desk::LINES_BYTES],
     index: &[u8; desk::INDEX_BYTES],
-) {
-    strewn::sum(b"sums: shared ", shared);
-    strewn::sum(b" private ", private);
-    strewn::sum(b" screen ", screen);
-    strewn::sum(b" attribute ", attribute);
-    strewn::sum(b" glyphs ", glyphs);
-    strewn::sum(b" nvm ", nvm);
-    strewn::sum(b" shadow ", shadow);
-    strewn::sum(b" picture ", picture);
-    strewn::sum(b" line ", line);
-    strewn::sum(b" lines ", lines);
-    strewn::sum(b" index ", index);
-    say::text(b"\n");
+) -> io::Result<()> {
+    strewn::sum(rt, b"sums: shared ", shared)?;
+    strewn::sum(rt, b" private ", private)?;
+    strewn::sum(rt, b" screen ", screen)?;
+    strewn::sum(rt, b" attribute ", attribute)?;
+    strewn::sum(rt, b" glyphs ", glyphs)?;
+    strewn::sum(rt, b" nvm ", nvm)?;
+    strewn::sum(rt, b" shadow ", shadow)?;
+    strewn::sum(rt, b" picture ", picture)?;
+    strewn::sum(rt, b" line ", line)?;
+    strewn::sum(rt, b" lines ", lines)?;
+    strewn::sum(rt, b" index ", index)?;
+    say::text(rt, b"\n")
 }
 
-fn power() -> Desk {
+fn power(rt: &HostRuntime) -> io::Result<Desk> {
     let up = desk::power_up();
-    say::machine(b"power-up: ", up.machine);
-    up
+    say::machine(rt, b"power-up: ", up.machine)?;
+    Ok(up)
 }
 
 // A caller may hold any byte in the scroll latch.
-fn latch(desk: Desk, byte: u8) -> Desk {
+fn latch(rt: &HostRuntime, desk: Desk, byte: u8) -> io::Result<Desk> {
     let mut machine = desk.machine;
     machine.latch = byte;
-    say::machine(b"latched: ", machine);
-    desk::with_machine(desk, machine)
+    say::machine(rt, b"latched: ", machine)?;
+    Ok(desk::with_machine(desk, machine))
 }
 
 // A caller may hold any byte in the watchdog's count, and reset beside it.
-fn count(desk: Desk, byte: u8, reset: bool) -> Desk {
+fn count(rt: &HostRuntime, desk: Desk, byte: u8, reset: bool) -> io::Result<Desk> {
     let mut machine = desk.machine;
     machine.count = byte;
     machine.reset = reset;
-    say::machine(b"counted: ", machine);
-    desk::with_machine(desk, machine)
+    say::machine(rt, b"counted: ", machine)?;
+    Ok(desk::with_machine(desk, machine))
 }
 
 // Obeys the other lines that are no call.
 pub fn obey(
+    rt: &HostRuntime,
     desk: Desk,
     command: Command,
     text: &[u8],
     screen: &[u8; desk::SCREEN_BYTES],
     attribute: &[u8; desk::ATTRIBUTE_BYTES],
     picture: &[u8; desk::PICTURE_BYTES],
-) -> Desk {
+) -> io::Result<Desk> {
     let form = command.form;
     match form {
-        forms::POWER => return power(),
-        forms::MACHINE => say::machine(b"machine: ", desk.machine),
-        forms::LATCH => return latch(desk, calls::byte(command.first)),
-        forms::COUNT => return count(desk, calls::byte(command.first), command.second != 0),
-        forms::VIEWERS => watching::say_waiting(b"viewers:", desk.viewers),
+        forms::POWER => return power(rt),
+        forms::MACHINE => say::machine(rt, b"machine: ", desk.machine)?,
+        forms::LATCH => return latch(rt, desk, calls::byte(command.first)),
+        forms::COUNT => return count(rt, desk, calls::byte(command.first), command.second != 0),
+        forms::VIEWERS => watching::say_waiting(rt, b"viewers:", desk.viewers)?,
         forms::WAIT => {
-            return watching::wait(desk, command.first, calls::address(command.second));
+            return watching::wait(rt, desk, command.first, calls::address(command.second));
         }
-        forms::ROWS => rows::list(picture),
-        forms::TEXT => rows::show(picture, desk.machine.columns()),
-        forms::LIST => rows::list_afresh(desk, command.first, screen, attribute),
-        forms::HELP => forms::help(),
-        _ => forms::no_form(text),
+        forms::ROWS => rows::list(rt, picture)?,
+        forms::TEXT => rows::show(rt, picture, desk.machine.columns())?,
+        forms::LIST => rows::list_afresh(rt, desk, command.first, screen, attribute)?,
+        forms::HELP => forms::help(rt)?,
+        _ => forms::no_form(rt, text)?,
     }
-    desk
+    Ok(desk)
 }

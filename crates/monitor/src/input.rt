@@ -1,138 +1,107 @@
 // Lines of text, read a byte at a time, so that a line typed at a terminal is answered at once.
 use crate::{desk, say};
-use libc::{STDERR_FILENO, STDIN_FILENO};
+use std::fs::File;
+use std::io;
+use std::io::{Read, Write};
 
 const PATH_BYTES: usize = 256;
+
+// Room for what the system says of a file that cannot be opened.
+const WHY_BYTES: usize = 128;
 
 // The most that a line may have.
 const LINE_BYTES: usize = 200;
 
 pub const TEXT_BYTES: usize = LINE_BYTES + 1;
 
-// Where lines are read, the file that an argument names or standard input, and the bytes of the last line.
-// Argument 0 stands for standard input.
+// The bytes of a line that was read.
 #[derive(Clone, Copy)]
-pub struct Source {
-    pub fd: i32,
-    pub argument: usize,
+pub struct Typed {
     pub bytes: usize,
-    // There is no line any more.
-    pub over: bool,
-}
-
-#[derive(Clone, Copy)]
-struct Typed {
-    bytes: usize,
     // There was no line any more.
-    ended: bool,
+    pub ended: bool,
 }
 
-// The file that an argument names. One that cannot be opened is told, and reads as an empty one.
-fn opened(argument: usize) -> Source {
+// The file that an argument names. One that cannot be opened is told, and is none.
+pub fn opened(rt: &HostRuntime, argument: usize) -> io::Result<Option<File>> {
     let mut path = [0u8; PATH_BYTES];
-    let n = os::arg(argument, &mut path);
-    let fd = os::open_read(&path[..n]);
-    if fd < 0 {
-        io::write_all(
-            STDERR_FILENO,
-            b"monitor: each argument must be a file of lines: ",
-        );
-        os::fail(&path[..n]);
-    }
-    Source {
-        fd,
-        argument,
-        bytes: 0,
-        over: false,
-    }
-}
-
-// The first file, or standard input where no argument names one.
-pub fn first() -> Source {
-    if os::arg_count() > 1 {
-        return opened(1);
-    }
-    Source {
-        fd: STDIN_FILENO,
-        argument: 0,
-        bytes: 0,
-        over: false,
-    }
-}
-
-// Reads a line. Where a file has ended this is an empty one, and the next file follows.
-pub fn next(source: Source, text: &mut [u8]) -> Source {
-    let fd = source.fd;
-    let argument = source.argument;
-    let typed = next_line(fd, text);
-    let bytes = typed.bytes;
-    if !typed.ended {
-        return Source {
-            fd,
-            argument,
-            bytes,
-            over: false,
-        };
-    }
-    let files = os::arg_count();
-    if argument < files {
-        if argument + 1 < files {
-            return opened(argument + 1);
+    let n = console::argument(rt, argument, &mut path);
+    let path = &path[..n];
+    match std::str::from_utf8(path) {
+        Ok(path) => open(rt, path),
+        Err(_) => {
+            let path = path.escape_ascii();
+            eprintln!(rt; "monitor: each argument must be a file of lines: {path}: not UTF-8")?;
+            Ok(None)
         }
     }
-    Source {
-        fd,
-        argument,
-        bytes,
-        over: true,
+}
+
+fn open(rt: &HostRuntime, path: &str) -> io::Result<Option<File>> {
+    match console::open(rt, path) {
+        Ok(file) => Ok(Some(file)),
+        Err(why) => {
+            tell(rt, path, why)?;
+            Ok(None)
+        }
     }
 }
 
-// The line that was read. One of a file is shown first, so that what is written reads alone.
-pub fn line(source: Source, text: &[u8]) -> &[u8] {
-    let bytes = desk::up_to(source.bytes, text);
-    let line = &text[0..bytes];
-    if source.argument > 0 {
-        echo(line);
-    }
-    line
+// Tells what the system says of a file that cannot be opened.
+fn tell(rt: &HostRuntime, path: &str, why: io::Error) -> io::Result<()> {
+    let mut text = [0u8; WHY_BYTES];
+    let _ = write!(&mut text[..], "{why}");
+    let why = words(std::str::from_utf8(&text).unwrap_or(""));
+    eprintln!(rt; "monitor: each argument must be a file of lines: {path}: {why}")
 }
 
-// Shows a line ahead of its answer. A remark is its own answer, and of a line that is too long only the
-// beginning was kept.
-fn echo(line: &[u8]) {
+// The words of a text with zeros after it, without the number of the error that may follow them.
+fn words(text: &str) -> &str {
+    match text.split_once(" (os error ") {
+        Some((words, _)) => words,
+        None => text.trim_end_matches('\0'),
+    }
+}
+
+// The line that was read.
+pub fn line(typed: Typed, text: &[u8]) -> &[u8] {
+    let bytes = desk::up_to(typed.bytes, text);
+    &text[0..bytes]
+}
+
+// Shows a line of a file ahead of its answer, so that what is written reads alone. A remark is its own answer, and of
+// a line that is too long only the beginning was kept.
+pub fn echo(rt: &HostRuntime, line: &[u8]) -> io::Result<()> {
     if is_long(line) | is_remark(line) {
-        return;
+        return Ok(());
     }
     if commands::has_words(line) {
-        say::text(b"> ");
-        say::line(line);
+        say::text(rt, b"> ")?;
+        say::line(rt, line)?;
     }
+    Ok(())
 }
 
-fn is_read(fd: i32, one: &mut [u8; 1]) -> bool {
-    libc::read(fd, one) > 0
+fn is_read<R: Read>(from: &mut R, one: &mut [u8; 1]) -> bool {
+    console::read_full(from, one) > 0
 }
 
-// Reads to the end of a line that is too long.
-fn skip_line(fd: i32) {
-    let mut turns = u64::MAX;
-    while turns > 0 {
+// Reads to the end of a line that is too long. A proved loop has to end, so it counts to a number that no run reaches.
+fn skip_line<R: Read>(from: &mut R) {
+    for _ in 0..u64::MAX {
         let mut one = [b'\n'; 1];
-        is_read(fd, &mut one);
+        is_read(from, &mut one);
         if one[0] == b'\n' {
             return;
         }
-        turns -= 1;
     }
 }
 
 // Reads a line without its end. The last line of a file may have none.
-fn next_line(fd: i32, text: &mut [u8]) -> Typed {
-    let mut bytes = 0;
-    while bytes < text.len() {
+pub fn next_line<R: Read>(from: &mut R, text: &mut [u8; TEXT_BYTES]) -> Typed {
+    for bytes in 0..TEXT_BYTES {
         let mut one = [0u8; 1];
-        if !is_read(fd, &mut one) {
+        if !is_read(from, &mut one) {
             return Typed {
                 bytes,
                 ended: bytes == 0,
@@ -145,11 +114,10 @@ fn next_line(fd: i32, text: &mut [u8]) -> Typed {
             };
         }
         text[bytes] = one[0];
-        bytes += 1;
     }
-    skip_line(fd);
+    skip_line(from);
     Typed {
-        bytes,
+        bytes: TEXT_BYTES,
         ended: false,
     }
 }

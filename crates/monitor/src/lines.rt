@@ -1,6 +1,7 @@
 // The lines of the whole screen, shown row by row.
 use crate::desk::Desk;
 use crate::{desk, rows, say};
+use std::io;
 
 // The row that a line of the list shows. There is always such a line; here the prover is told so.
 fn row_of(list: &[u8], line: usize) -> u8 {
@@ -27,33 +28,34 @@ fn is_last(list: &[u8], line: usize) -> bool {
 }
 
 // Of a row the first line is shown as row and scan, the last one as its scan.
-fn show_line(list: &[u8], line: usize) {
+fn show_line(rt: &HostRuntime, list: &[u8], line: usize) -> io::Result<()> {
     let scan = scan_of(list, line) as usize;
     if is_first(list, line) {
-        say::number(b" ", row_of(list, line) as usize);
-        say::number(b":", scan);
+        say::number(rt, b" ", row_of(list, line) as usize)?;
+        say::number(rt, b":", scan)?;
     }
     if is_last(list, line) {
-        say::number(b"-", scan);
+        say::number(rt, b"-", scan)?;
     }
+    Ok(())
 }
 
-fn show(list: &[u8]) {
+fn show(rt: &HostRuntime, list: &[u8]) -> io::Result<()> {
     for line in 0..whole_screen::LINES {
-        show_line(list, line);
+        show_line(rt, list, line)?;
     }
+    Ok(())
 }
 
 // Lists the lines of the kept picture, and shows which scans of which rows they are.
-pub fn list(desk: Desk, picture: &[u8], lines: &mut [u8]) {
+pub fn list(rt: &HostRuntime, desk: Desk, picture: &[u8], lines: &mut [u8]) -> io::Result<()> {
     let a = desk::cut(desk, desk::PICTURE, picture);
     let b = desk::cut(desk, desk::LINES, lines);
     let refusal = whole_screen::list_lines(desk.machine, &picture[0..a], &mut lines[0..b]);
     if refusal != lent::ACCEPTED {
-        say::refused(refusal);
-        return;
+        return say::refused(rt, refusal);
     }
-    say::text(b"lines");
-    show(lines);
-    say::text(b"\n");
+    say::text(rt, b"lines")?;
+    show(rt, lines)?;
+    say::text(rt, b"\n")
 }

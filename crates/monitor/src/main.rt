@@ -16,11 +16,10 @@ mod watching;
 mod why;
 
 use desk::Desk;
-use input::Source;
+use std::io;
+use std::io::Read;
 
-// Takes lines to the end of the input. A proved loop has to end, so it counts down from a number that no run uses
-// up.
-fn main() {
+fn main(rt: HostRuntime) -> io::Result<()> {
     let mut shared = [0; desk::SHARED_BYTES];
     let mut private = [0; desk::PRIVATE_BYTES];
     let mut screen = [0; desk::SCREEN_BYTES];
@@ -33,18 +32,12 @@ fn main() {
     let mut lines = [0; desk::LINES_BYTES];
     let mut index = [0; desk::INDEX_BYTES];
     let mut desk = desk::power_up();
-    let mut source = input::first();
-    let mut turns = u64::MAX;
-    while turns > 0 {
-        let mut text = [0u8; input::TEXT_BYTES];
-        source = input::next(source, &mut text);
-        if source.over {
-            return;
-        }
-        desk = turn(
+    if !console::has_argument(&rt, 1) {
+        obey_lines(
+            &rt,
+            &mut rt.stdin(),
+            false,
             desk,
-            source,
-            &text,
             &mut shared,
             &mut private,
             &mut screen,
@@ -56,15 +49,78 @@ fn main() {
             &mut line,
             &mut lines,
             &mut index,
-        );
-        turns -= 1;
+        )?;
+        return Ok(());
     }
+    for argument in 1..usize::MAX {
+        if !console::has_argument(&rt, argument) {
+            return Ok(());
+        }
+        if let Some(mut file) = input::opened(&rt, argument)? {
+            desk = obey_lines(
+                &rt,
+                &mut file,
+                true,
+                desk,
+                &mut shared,
+                &mut private,
+                &mut screen,
+                &mut attribute,
+                &mut glyphs,
+                &mut nvm,
+                &mut shadow,
+                &mut picture,
+                &mut line,
+                &mut lines,
+                &mut index,
+            )?;
+        }
+    }
+    Ok(())
 }
 
-// Obeys the line that was read last.
-fn turn(
+// Takes lines to the end of the input, and shows those of a file ahead of their answers. A proved loop has to end, so
+// it counts to a number that no run reaches.
+fn obey_lines<R: Read>(
+    rt: &HostRuntime,
+    from: &mut R,
+    is_file: bool,
     desk: Desk,
-    source: Source,
+    shared: &mut [u8; desk::SHARED_BYTES],
+    private: &mut [u8; desk::PRIVATE_BYTES],
+    screen: &mut [u8; desk::SCREEN_BYTES],
+    attribute: &mut [u8; desk::ATTRIBUTE_BYTES],
+    glyphs: &mut [u8; desk::GLYPHS_BYTES],
+    nvm: &mut [u8; desk::NVM_BYTES],
+    shadow: &mut [u8; desk::SHADOW_BYTES],
+    picture: &mut [u8; desk::PICTURE_BYTES],
+    line: &mut [u8; desk::LINE_BYTES],
+    lines: &mut [u8; desk::LINES_BYTES],
+    index: &mut [u8; desk::INDEX_BYTES],
+) -> io::Result<Desk> {
+    let mut desk = desk;
+    for _ in 0..u64::MAX {
+        let mut text = [0u8; input::TEXT_BYTES];
+        let typed = input::next_line(from, &mut text);
+        if typed.ended {
+            return Ok(desk);
+        }
+        let typed = input::line(typed, &text);
+        if is_file {
+            input::echo(rt, typed)?;
+        }
+        desk = turn(
+            rt, desk, typed, shared, private, screen, attribute, glyphs, nvm, shadow, picture,
+            line, lines, index,
+        )?;
+    }
+    Ok(desk)
+}
+
+// Obeys a line.
+fn turn(
+    rt: &HostRuntime,
+    desk: Desk,
     text: &[u8],
     shared: &mut [u8; desk::SHARED_BYTES],
     private: &mut [u8; desk::PRIVATE_BYTES],
@@ -77,33 +133,33 @@ fn turn(
     line: &mut [u8; desk::LINE_BYTES],
     lines: &mut [u8; desk::LINES_BYTES],
     index: &mut [u8; desk::INDEX_BYTES],
-) -> Desk {
-    let text = input::line(source, text);
+) -> io::Result<Desk> {
     let command = forms::parse(text);
     let form = command.form;
     match form {
         forms::STORE..=forms::READ | forms::INDEX_STORE => {
-            return calls::by_8088(desk, command, shared, screen, attribute, picture, index);
+            return calls::by_8088(rt, desk, command, shared, screen, attribute, picture, index);
         }
-        forms::Z80_STORE..=forms::Z80_READ => calls::by_z80(desk, command, private, shared),
-        forms::PORT..=forms::WATCH => return calls::to_machine(desk, command, shadow, nvm),
-        forms::SHADOW_WRITE..=forms::SHADOW_READ => calls::to_shadow(desk, command, shadow),
-        forms::DRAW => return watching::draw(desk, screen, attribute, picture),
-        forms::INDEX => calls::index(desk, screen, attribute, index),
-        forms::ASK => return watching::ask(desk, command.first),
+        forms::Z80_STORE..=forms::Z80_READ => calls::by_z80(rt, desk, command, private, shared)?,
+        forms::PORT..=forms::WATCH => return calls::to_machine(rt, desk, command, shadow, nvm),
+        forms::SHADOW_WRITE..=forms::SHADOW_READ => calls::to_shadow(rt, desk, command, shadow)?,
+        forms::DRAW => return watching::draw(rt, desk, screen, attribute, picture),
+        forms::INDEX => calls::index(rt, desk, screen, attribute, index)?,
+        forms::ASK => return watching::ask(rt, desk, command.first),
         forms::MARKED..=forms::SCROLL => scans::show(
-            desk, command, screen, attribute, picture, glyphs, line, lines,
-        ),
+            rt, desk, command, screen, attribute, picture, glyphs, line, lines,
+        )?,
         forms::SUMS => hand::sums(
-            shared, private, screen, attribute, glyphs, nvm, shadow, picture, line, lines, index,
-        ),
+            rt, shared, private, screen, attribute, glyphs, nvm, shadow, picture, line, lines,
+            index,
+        )?,
         forms::LEND..=forms::STREW => {
             return hand::named(
-                desk, command, shared, private, screen, attribute, glyphs, nvm, shadow, picture,
-                line, lines, index,
+                rt, desk, command, shared, private, screen, attribute, glyphs, nvm, shadow,
+                picture, line, lines, index,
             );
         }
-        _ => return hand::obey(desk, command, text, screen, attribute, picture),
+        _ => return hand::obey(rt, desk, command, text, screen, attribute, picture),
     }
-    desk
+    Ok(desk)
 }

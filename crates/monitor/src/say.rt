@@ -1,132 +1,132 @@
 // What the monitor answers, in words and hexadecimal.
-use libc::STDOUT_FILENO;
 use machine::Machine;
+use std::io;
 
 // Writes bytes as they are.
-pub fn text(words: &[u8]) {
-    io::write_all(STDOUT_FILENO, words);
+pub fn text(rt: &HostRuntime, words: &[u8]) -> io::Result<()> {
+    rt.write_all(words)
 }
 
 // Writes bytes and ends the line.
-pub fn line(words: &[u8]) {
-    text(words);
-    text(b"\n");
+pub fn line(rt: &HostRuntime, words: &[u8]) -> io::Result<()> {
+    text(rt, words)?;
+    text(rt, b"\n")
 }
 
 // Words without the blanks after them.
-pub fn trimmed(words: &[u8]) {
+pub fn trimmed(rt: &HostRuntime, words: &[u8]) -> io::Result<()> {
     let mut end = words.len();
     while end > 0 {
         if words[end - 1] != b' ' {
-            text(&words[0..end]);
-            return;
+            return text(rt, &words[0..end]);
         }
         end -= 1;
     }
+    Ok(())
 }
 
 // Words, then a number in decimal.
-pub fn number(words: &[u8], n: usize) {
-    text(words);
-    io::print_decimal(STDOUT_FILENO, n as u64);
+pub fn number(rt: &HostRuntime, words: &[u8], n: usize) -> io::Result<()> {
+    text(rt, words)?;
+    print!(rt; "{n}")
 }
 
 // Words, then two hexadecimal digits.
-pub fn byte(words: &[u8], n: u8) {
-    text(words);
-    text(&[ascii::digit(n / 16), ascii::digit(n % 16)]);
+pub fn byte(rt: &HostRuntime, words: &[u8], n: u8) -> io::Result<()> {
+    text(rt, words)?;
+    text(rt, &[ascii::digit(n / 16), ascii::digit(n % 16)])
 }
 
 // Words, then eight hexadecimal digits.
-pub fn long(words: &[u8], n: u32) {
-    byte(words, (n / 16777216) as u8);
-    byte(b"", (n / 65536 % 256) as u8);
-    byte(b"", (n / 256 % 256) as u8);
-    byte(b"", (n % 256) as u8);
+pub fn long(rt: &HostRuntime, words: &[u8], n: u32) -> io::Result<()> {
+    byte(rt, words, (n / 16777216) as u8)?;
+    byte(rt, b"", (n / 65536 % 256) as u8)?;
+    byte(rt, b"", (n / 256 % 256) as u8)?;
+    byte(rt, b"", (n % 256) as u8)
 }
 
 // A line of words and then bytes, each after a blank.
-pub fn bytes(words: &[u8], list: &[u8]) {
-    text(words);
+pub fn bytes(rt: &HostRuntime, words: &[u8], list: &[u8]) -> io::Result<()> {
+    text(rt, words)?;
     for i in 0..list.len() {
-        byte(b" ", list[i]);
+        byte(rt, b" ", list[i])?;
     }
-    text(b"\n");
+    text(rt, b"\n")
 }
 
 // The number of refusal, with what it says.
-pub fn refused(refusal: u8) {
-    number(b"refused ", refusal as usize);
-    because(refusal);
+pub fn refused(rt: &HostRuntime, refusal: u8) -> io::Result<()> {
+    number(rt, b"refused ", refusal as usize)?;
+    because(rt, refusal)
 }
 
 // What a number of refusal says.
-pub fn because(refusal: u8) {
+pub fn because(rt: &HostRuntime, refusal: u8) -> io::Result<()> {
     match refusal {
-        lent::LENGTH => line(b": a memory lent at another length than its own"),
-        lent::ADDRESS => line(b": the 8088 sees no memory at this address"),
-        lent::PORT => line(b": the port is none of 04, 0A, 0C, 10C"),
-        lent::CODE => line(b": the port has no such code"),
-        lent::PLACE => line(b": no such row, column, scan or place"),
-        lent::EDGES => line(b": bits 6 and 7 both rise"),
-        lent::Z80_HELD => line(b": the Z80 is held in reset"),
-        lent::IN_RESET => line(b": the 8088 is in reset"),
-        lent::LATCH => line(b": the scroll latch is over 9"),
-        lent::VIEWER => line(b": no such viewer"),
-        _ => line(b": a refusal that the monitor does not know"),
+        lent::LENGTH => line(rt, b": a memory lent at another length than its own"),
+        lent::ADDRESS => line(rt, b": the 8088 sees no memory at this address"),
+        lent::PORT => line(rt, b": the port is none of 04, 0A, 0C, 10C"),
+        lent::CODE => line(rt, b": the port has no such code"),
+        lent::PLACE => line(rt, b": no such row, column, scan or place"),
+        lent::EDGES => line(rt, b": bits 6 and 7 both rise"),
+        lent::Z80_HELD => line(rt, b": the Z80 is held in reset"),
+        lent::IN_RESET => line(rt, b": the 8088 is in reset"),
+        lent::LATCH => line(rt, b": the scroll latch is over 9"),
+        lent::VIEWER => line(rt, b": no such viewer"),
+        _ => line(rt, b": a refusal that the monitor does not know"),
     }
 }
 
 // The answer of a call that gives only its refusal.
-pub fn done(words: &[u8], refusal: u8) {
+pub fn done(rt: &HostRuntime, words: &[u8], refusal: u8) -> io::Result<()> {
     if refusal == lent::ACCEPTED {
-        line(words);
+        line(rt, words)
     } else {
-        refused(refusal);
+        refused(rt, refusal)
     }
 }
 
 // Words, then 1 or 0.
-pub fn flag(words: &[u8], set: bool) {
-    text(words);
+pub fn flag(rt: &HostRuntime, words: &[u8], set: bool) -> io::Result<()> {
+    text(rt, words)?;
     if set {
-        text(b" 1");
+        text(rt, b" 1")
     } else {
-        text(b" 0");
+        text(rt, b" 0")
     }
 }
 
-fn flip_flops(machine: Machine) {
-    flag(b", blink", machine.blink);
-    flag(b", interrupt", machine.interrupt);
-    flag(b", reverse", machine.reverse);
+fn flip_flops(rt: &HostRuntime, machine: Machine) -> io::Result<()> {
+    flag(rt, b", blink", machine.blink)?;
+    flag(rt, b", interrupt", machine.interrupt)?;
+    flag(rt, b", reverse", machine.reverse)
 }
 
-fn watchdog(machine: Machine) {
-    flag(b", watchdog", machine.watchdog);
-    number(b", count ", machine.count as usize);
-    flag(b", reset", machine.reset);
+fn watchdog(rt: &HostRuntime, machine: Machine) -> io::Result<()> {
+    flag(rt, b", watchdog", machine.watchdog)?;
+    number(rt, b", count ", machine.count as usize)?;
+    flag(rt, b", reset", machine.reset)
 }
 
-fn port_0a(machine: Machine) {
-    byte(b", 0A holds ", machine.held);
-    flag(b", z80 runs", machine.z80_runs());
-    flag(b", blanked", machine.blanked());
-    flag(b", graphics", machine.graphics());
+fn port_0a(rt: &HostRuntime, machine: Machine) -> io::Result<()> {
+    byte(rt, b", 0A holds ", machine.held)?;
+    flag(rt, b", z80 runs", machine.z80_runs())?;
+    flag(rt, b", blanked", machine.blanked())?;
+    flag(rt, b", graphics", machine.graphics())
 }
 
 // A line of words and then the machine, setting by setting.
-pub fn machine(words: &[u8], machine: Machine) {
-    number(words, machine.columns());
+pub fn machine(rt: &HostRuntime, words: &[u8], machine: Machine) -> io::Result<()> {
+    number(rt, words, machine.columns())?;
     if machine.hertz50 {
-        text(b" columns, 50 Hz");
+        text(rt, b" columns, 50 Hz")?;
     } else {
-        text(b" columns, 60 Hz");
+        text(rt, b" columns, 60 Hz")?;
     }
-    flag(b", interlace", machine.interlace);
-    byte(b", latch ", machine.latch);
-    flip_flops(machine);
-    watchdog(machine);
-    port_0a(machine);
-    text(b"\n");
+    flag(rt, b", interlace", machine.interlace)?;
+    byte(rt, b", latch ", machine.latch)?;
+    flip_flops(rt, machine)?;
+    watchdog(rt, machine)?;
+    port_0a(rt, machine)?;
+    text(rt, b"\n")
 }

@@ -3,12 +3,13 @@ use crate::desk::Desk;
 use crate::{calls, desk, forms, lines, rows, say, why};
 use commands::Command;
 use machine::Machine;
+use std::io;
 
-fn is_marked(command: Command) {
+fn is_marked(rt: &HostRuntime, command: Command) -> io::Result<()> {
     if marks::is_marked(calls::address(command.first), command.second) {
-        say::line(b"marked");
+        say::line(rt, b"marked")
     } else {
-        say::line(b"not marked");
+        say::line(rt, b"not marked")
     }
 }
 
@@ -23,7 +24,14 @@ fn shown(dot: u8) -> u8 {
     }
 }
 
-fn draw_line(desk: Desk, command: Command, picture: &[u8], table: &[u8], line: &mut [u8]) {
+fn draw_line(
+    rt: &HostRuntime,
+    desk: Desk,
+    command: Command,
+    picture: &[u8],
+    table: &[u8],
+    line: &mut [u8],
+) -> io::Result<()> {
     let a = desk::cut(desk, desk::PICTURE, picture);
     let b = desk::cut(desk, desk::GLYPHS, table);
     let c = desk::cut(desk, desk::LINE, line);
@@ -35,49 +43,52 @@ fn draw_line(desk: Desk, command: Command, picture: &[u8], table: &[u8], line: &
         command.second,
         &mut line[0..c],
     );
-    say_line(desk.machine, refusal, line);
+    say_line(rt, desk.machine, refusal, line)
 }
 
-fn say_line(machine: Machine, refusal: u8, line: &[u8]) {
+fn say_line(rt: &HostRuntime, machine: Machine, refusal: u8, line: &[u8]) -> io::Result<()> {
     if refusal != lent::ACCEPTED {
-        say::refused(refusal);
-        return;
+        return say::refused(rt, refusal);
     }
-    show_dots(line, scan_line::dots_of_line(machine));
+    show_dots(rt, line, scan_line::dots_of_line(machine))
 }
 
-fn show_dots(line: &[u8], dots: usize) {
+fn show_dots(rt: &HostRuntime, line: &[u8], dots: usize) -> io::Result<()> {
     let mut text = [b'?'; lent::LINE_BYTES];
     for dot in 0..lent::LINE_BYTES {
         text[dot] = shown(rows::byte_of(line, dot));
     }
     let dots = desk::up_to(dots, &text);
-    say::line(&text[0..dots]);
+    say::line(rt, &text[0..dots])
 }
 
-fn part(desk: Desk, command: Command, table: &[u8]) {
+fn part(rt: &HostRuntime, desk: Desk, command: Command, table: &[u8]) -> io::Result<()> {
     let a = desk::cut(desk, desk::GLYPHS, table);
     let part = glyphs::part(&table[0..a], calls::byte(command.first));
     let refusal = glyphs::refusal(part);
     if refusal != lent::ACCEPTED {
-        say::refused(refusal);
-        return;
+        return say::refused(rt, refusal);
     }
-    say::bytes(b"part", part);
+    say::bytes(rt, b"part", part)
 }
 
-fn count(desk: Desk) {
-    say::number(b"dots of a line: ", scan_line::dots_of_line(desk.machine));
-    say::text(b"\n");
+fn count(rt: &HostRuntime, desk: Desk) -> io::Result<()> {
+    say::number(
+        rt,
+        b"dots of a line: ",
+        scan_line::dots_of_line(desk.machine),
+    )?;
+    say::text(rt, b"\n")
 }
 
-fn scroll(desk: Desk) {
-    say::byte(b"scroll latch: ", desk.machine.scroll_latch());
-    say::text(b"\n");
+fn scroll(rt: &HostRuntime, desk: Desk) -> io::Result<()> {
+    say::byte(rt, b"scroll latch: ", desk.machine.scroll_latch())?;
+    say::text(rt, b"\n")
 }
 
 // Obeys a line that draws dots, or that asks what a drawing goes by.
 pub fn show(
+    rt: &HostRuntime,
     desk: Desk,
     command: Command,
     screen: &[u8; desk::SCREEN_BYTES],
@@ -86,15 +97,15 @@ pub fn show(
     table: &[u8; desk::GLYPHS_BYTES],
     line: &mut [u8; desk::LINE_BYTES],
     lines: &mut [u8; desk::LINES_BYTES],
-) {
+) -> io::Result<()> {
     let form = command.form;
     match form {
-        forms::MARKED => is_marked(command),
-        forms::WHY => why::explain(desk, command, screen, attribute),
-        forms::LINE => draw_line(desk, command, picture, table, line),
-        forms::LINES => lines::list(desk, picture, lines),
-        forms::GLYPH => part(desk, command, table),
-        forms::DOTS => count(desk),
-        _ => scroll(desk),
+        forms::MARKED => is_marked(rt, command),
+        forms::WHY => why::explain(rt, desk, command, screen, attribute),
+        forms::LINE => draw_line(rt, desk, command, picture, table, line),
+        forms::LINES => lines::list(rt, desk, picture, lines),
+        forms::GLYPH => part(rt, desk, command, table),
+        forms::DOTS => count(rt, desk),
+        _ => scroll(rt, desk),
     }
 }

@@ -4,46 +4,47 @@ use crate::{calls, desk, say};
 use commands::Command;
 use mending::Stored;
 use picture::Drawn;
+use std::io;
 use viewers::{Asked, Viewers};
 
 // The bits of a number of marks. All are shown, also those that no row has.
 const MARK_BITS: usize = 32;
 
 // Words, the marks, and each row that is marked.
-fn say_marks(words: &[u8], marks: u32) {
-    say::long(words, marks);
+fn say_marks(rt: &HostRuntime, words: &[u8], marks: u32) -> io::Result<()> {
+    say::long(rt, words, marks)?;
     for row in 0..MARK_BITS {
         if marks::is_marked(marks, row) {
-            say::number(b" ", row);
+            say::number(rt, b" ", row)?;
         }
     }
-    say::text(b"\n");
+    say::text(rt, b"\n")
 }
 
 // A refusal is shown with the marks beside it, which have to be 0.
-fn say_unmarked(refusal: u8, marks: u32) {
-    say::number(b"refused ", refusal as usize);
-    say::long(b", marks ", marks);
-    say::because(refusal);
+fn say_unmarked(rt: &HostRuntime, refusal: u8, marks: u32) -> io::Result<()> {
+    say::number(rt, b"refused ", refusal as usize)?;
+    say::long(rt, b", marks ", marks)?;
+    say::because(rt, refusal)
 }
 
-fn say_stored(answer: Stored) {
+fn say_stored(rt: &HostRuntime, answer: Stored) -> io::Result<()> {
     if answer.refusal != lent::ACCEPTED {
-        say_unmarked(answer.refusal, answer.marks);
-        return;
+        return say_unmarked(rt, answer.refusal, answer.marks);
     }
-    say_marks(b"stored, marks ", answer.marks);
+    say_marks(rt, b"stored, marks ", answer.marks)
 }
 
 // Obeys a line that stores as the 8088 does, with the picture lent.
 pub fn store(
+    rt: &HostRuntime,
     desk: Desk,
     command: Command,
     shared: &mut [u8],
     screen: &mut [u8],
     attribute: &mut [u8],
     picture: &mut [u8],
-) -> Desk {
+) -> io::Result<Desk> {
     let a = desk::cut(desk, desk::PICTURE, picture);
     let served = viewers::store_for_viewers(
         desk.machine,
@@ -55,12 +56,13 @@ pub fn store(
         calls::address(command.first),
         calls::byte(command.second),
     );
-    say_stored(served.stored);
-    desk::with_viewers(desk, served.viewers)
+    say_stored(rt, served.stored)?;
+    Ok(desk::with_viewers(desk, served.viewers))
 }
 
 // The same with the index lent too.
 pub fn store_with_index(
+    rt: &HostRuntime,
     desk: Desk,
     command: Command,
     shared: &mut [u8],
@@ -68,7 +70,7 @@ pub fn store_with_index(
     attribute: &mut [u8],
     picture: &mut [u8],
     index: &mut [u8],
-) -> Desk {
+) -> io::Result<Desk> {
     let a = desk::cut(desk, desk::PICTURE, picture);
     let b = desk::cut(desk, desk::INDEX, index);
     let served = viewers::store_with_index_for_viewers(
@@ -82,33 +84,37 @@ pub fn store_with_index(
         calls::address(command.first),
         calls::byte(command.second),
     );
-    say_stored(served.stored);
-    desk::with_viewers(desk, served.viewers)
+    say_stored(rt, served.stored)?;
+    Ok(desk::with_viewers(desk, served.viewers))
 }
 
-fn say_wild(answer: Drawn) {
+fn say_wild(rt: &HostRuntime, answer: Drawn) -> io::Result<()> {
     if answer.wild {
-        say::number(b", first wild row: ", answer.wild_row as usize);
-        return;
+        return say::number(rt, b", first wild row: ", answer.wild_row as usize);
     }
-    say::text(b", no wild row named");
+    say::text(rt, b", no wild row named")
 }
 
-fn say_drawn(answer: Drawn) {
+fn say_drawn(rt: &HostRuntime, answer: Drawn) -> io::Result<()> {
     if answer.refusal != lent::ACCEPTED {
-        say::number(b"refused ", answer.refusal as usize);
-        say::number(b", bytes read ", answer.reads as usize);
-        say_wild(answer);
-        say::because(answer.refusal);
-        return;
+        say::number(rt, b"refused ", answer.refusal as usize)?;
+        say::number(rt, b", bytes read ", answer.reads as usize)?;
+        say_wild(rt, answer)?;
+        return say::because(rt, answer.refusal);
     }
-    say::number(b"drawn, bytes read: ", answer.reads as usize);
-    say_wild(answer);
-    say::text(b"\n");
+    say::number(rt, b"drawn, bytes read: ", answer.reads as usize)?;
+    say_wild(rt, answer)?;
+    say::text(rt, b"\n")
 }
 
 // Obeys a line that draws the picture afresh.
-pub fn draw(desk: Desk, screen: &[u8], attribute: &[u8], picture: &mut [u8]) -> Desk {
+pub fn draw(
+    rt: &HostRuntime,
+    desk: Desk,
+    screen: &[u8],
+    attribute: &[u8],
+    picture: &mut [u8],
+) -> io::Result<Desk> {
     let a = desk::cut(desk, desk::SCREEN, screen);
     let b = desk::cut(desk, desk::ATTRIBUTE, attribute);
     let c = desk::cut(desk, desk::PICTURE, picture);
@@ -119,43 +125,42 @@ pub fn draw(desk: Desk, screen: &[u8], attribute: &[u8], picture: &mut [u8]) -> 
         &attribute[0..b],
         &mut picture[0..c],
     );
-    say_drawn(served.drawn);
-    desk::with_viewers(desk, served.viewers)
+    say_drawn(rt, served.drawn)?;
+    Ok(desk::with_viewers(desk, served.viewers))
 }
 
-fn say_asked(answer: Asked) {
+fn say_asked(rt: &HostRuntime, answer: Asked) -> io::Result<()> {
     if answer.refusal != lent::ACCEPTED {
-        say_unmarked(answer.refusal, answer.marks);
-        return;
+        return say_unmarked(rt, answer.refusal, answer.marks);
     }
-    say_marks(b"asked, marks ", answer.marks);
+    say_marks(rt, b"asked, marks ", answer.marks)
 }
 
 // Obeys a line in which a viewer asks.
-pub fn ask(desk: Desk, viewer: usize) -> Desk {
+pub fn ask(rt: &HostRuntime, desk: Desk, viewer: usize) -> io::Result<Desk> {
     let asked = desk.viewers.ask(viewer);
-    say_asked(asked);
-    desk::with_viewers(desk, asked.viewers)
+    say_asked(rt, asked)?;
+    Ok(desk::with_viewers(desk, asked.viewers))
 }
 
 // A line of words and then the marks that wait, viewer by viewer.
-pub fn say_waiting(words: &[u8], viewers: Viewers) {
+pub fn say_waiting(rt: &HostRuntime, words: &[u8], viewers: Viewers) -> io::Result<()> {
     let waiting = viewers.waiting;
-    say::text(words);
+    say::text(rt, words)?;
     for viewer in 0..viewers::VIEWERS {
-        say::long(b" ", waiting[viewer]);
+        say::long(rt, b" ", waiting[viewer])?;
     }
-    say::text(b"\n");
+    say::text(rt, b"\n")
 }
 
 // A caller may hold any number in place of a viewer's marks.
-pub fn wait(desk: Desk, viewer: usize, marks: u32) -> Desk {
+pub fn wait(rt: &HostRuntime, desk: Desk, viewer: usize, marks: u32) -> io::Result<Desk> {
     let mut viewers = desk.viewers;
     if viewer >= viewers::VIEWERS {
-        say::line(b"expected a viewer of 0 to 7");
-        return desk;
+        say::line(rt, b"expected a viewer of 0 to 7")?;
+        return Ok(desk);
     }
     viewers.waiting[viewer] = marks;
-    say_waiting(b"waits:", viewers);
-    desk::with_viewers(desk, viewers)
+    say_waiting(rt, b"waits:", viewers)?;
+    Ok(desk::with_viewers(desk, viewers))
 }

@@ -3,30 +3,30 @@
 #![tactic(auto)]
 
 use lent::{ATTRIBUTE_BYTES, PICTURE_BYTES, SCREEN_BYTES};
-use libc::{STDERR_FILENO, STDIN_FILENO, STDOUT_FILENO};
 use listing::TEXT_BYTES;
 use picture::Drawn;
+use std::io;
 
 // On standard error, so that the list stays what its readers know.
-fn tell_wild(drawn: Drawn) {
+fn tell_wild(rt: &HostRuntime, drawn: Drawn) -> io::Result<()> {
     if !drawn.wild {
-        return;
+        return Ok(());
     }
-    io::write_all(STDERR_FILENO, b"rows: the link of row ");
-    io::print_decimal(STDERR_FILENO, drawn.wild_row as u64);
-    io::write_all(STDERR_FILENO, b" is wild\n");
+    let row = drawn.wild_row;
+    eprintln!(rt; "rows: the link of row {row} is wild")
 }
 
-fn main() {
+fn main(rt: HostRuntime) -> io::Result<()> {
     let mut screen = [0; SCREEN_BYTES];
     let mut attribute = [0; ATTRIBUTE_BYTES];
     // One byte more than is wanted tells input that is too long.
     let mut beyond = [0; 1];
     let mut picture = [0; PICTURE_BYTES];
     let mut text = [0; TEXT_BYTES];
-    let screen_bytes = io::read_full(STDIN_FILENO, &mut screen);
-    let attribute_bytes = io::read_full(STDIN_FILENO, &mut attribute);
-    let beyond_bytes = io::read_full(STDIN_FILENO, &mut beyond);
+    let mut input = rt.stdin();
+    let screen_bytes = console::read_full(&mut input, &mut screen);
+    let attribute_bytes = console::read_full(&mut input, &mut attribute);
+    let beyond_bytes = console::read_full(&mut input, &mut beyond);
     let listed = listing::list_rows(
         &screen[..screen_bytes],
         &attribute[..attribute_bytes],
@@ -35,6 +35,6 @@ fn main() {
         &mut text,
     );
     let text_bytes = listed.bytes;
-    io::write_all(STDOUT_FILENO, &text[..text_bytes]);
-    tell_wild(listed.drawn);
+    rt.write_all(&text[..text_bytes])?;
+    tell_wild(&rt, listed.drawn)
 }

@@ -36,7 +36,7 @@ use Rattle.explaining.specs.declared.Why.TheVariants.{Refused, Cell}
 use Rattle.explaining.proofs.Laws.{on_screen_lem}
 use Rattle.explaining.proofs.Shown.{holds_as, shows_what_it_says}
 use Rattle.explaining.proofs.Desk.{desk_promise}
-use Rattle.runs.specs.World.{Shared, Screen, Attribute, Picture, World, answer}
+use Rattle.runs.specs.World.{Shared, Screen, Attribute, Picture, World}
 use Rattle.runs.specs.Desk.{Asked, DeskSeesIt}
 use Rattle.runs.proofs.Worlds.{picture_refusal}
 use Rattle.runs.proofs.Kept.{drawable_too}

@@ -6,7 +6,7 @@ use mathlib.Core.Bool.{Bool, true, false, not, cond, ◌&&◌, ◌||◌, true≢
 use native.Mathlib.Omega.{arith}
 use lib.ListN.{length}
 use lib.Dec.{eqb, leb}
-use borrow.Author.Tests.{eqb-true, eqb-false, ne_eqb, leb-true}
+use borrow.Author.Tests.{eqb-true, ne_eqb, leb-true}
 use Rattle.lent.specs.Refusals.{accepted, refuses, length_refused, port_refused, in_reset_refused}
 use Rattle.lent.proofs.Tests.{either}
 use Rattle.machine.specs.declared.Machine.{Machine}

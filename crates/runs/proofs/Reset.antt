@@ -2,16 +2,15 @@
 use Prim.Native.Nat.{ℕ}
 use mathlib.Core.Path.{◌≡◌, refl, subst, sym, ap, ◌∙◌}
 use mathlib.Core.List.{List, [], ◌∷◌}
-use mathlib.Core.Bool.{Bool, true, false, not, cond, ◌&&◌, ◌||◌, true≢false, false≢true, and-eq-true_iff, or-true}
+use mathlib.Core.Bool.{Bool, true, false, not, cond, true≢false, false≢true, and-eq-true_iff, or-true}
 use lib.ListN.{length, drop}
 use Rattle.machine.specs.Settings.{z80_runs}
-use Rattle.machine.specs.declared.Machine.{Machine}
 use Rattle.memories.specs.ViewZ80.{shared_from}
-use Rattle.runs.specs.World.{Memory, Shared, Private, World, with_machine, Call, Read8088, Store8088, ReadZ80, StoreZ80, ReadShadow, WriteShadow, WritePort, VerticalTick, WatchdogTick, Draw, StoreWithPicture, IndexReaders, StoreWithIndex, DrawForViewers, StoreForViewers, StoreWithIndexForViewers, Ask, GlyphPart, DrawLine, ListLines, Explain, Answer}
+use Rattle.runs.specs.World.{Memory, Shared, Private, World, with_machine, Call, Read8088, Store8088, ReadZ80, StoreZ80, ReadShadow, WriteShadow, WritePort, VerticalTick, WatchdogTick, Draw, StoreWithPicture, IndexReaders, StoreWithIndex, DrawForViewers, StoreForViewers, StoreWithIndexForViewers, Ask, GlyphPart, DrawLine, ListLines, Explain}
 use Rattle.runs.specs.Reach.{Z80Bit, has, has_memory, Same}
 use Rattle.runs.specs.Z80.{only_parts, only_memories, is_z80, Agree}
 use Rattle.runs.specs.Kept.{Lent, Own, Another, lent_bytes, kept_bytes, lending, keeping, Step, Made, Lending, stepped}
-use Rattle.runs.specs.Stopped.{The8088, TheZ80, is_8088, is_stopped, call_of, answer_of, stepped_all, stopped_at, stopped_at_its_calls, answers_of, without}
+use Rattle.runs.specs.Stopped.{The8088, TheZ80, is_8088, call_of, answer_of, stepped_all, stopped_at, stopped_at_its_calls, answers_of, without}
 use Rattle.runs.specs.Reset.{all_accesses, NothingInReset, Z80GoesOn}
 use Rattle.runs.proofs.Z80.{keeps_the_bit, agree_sym, agree_trans, z80}
 use Rattle.runs.proofs.Stopped.{step_stays, first_and_later, stopped_touches_nothing}

@@ -17,7 +17,7 @@ use Rattle.marks.proofs.Marks.{bit_by_bit}
 use Rattle.mending.specs.Mending.{marks_of}
 use Rattle.mending.proofs.Changes.{marks_of_lem}
 use Rattle.index.proofs.Meaning.{marks_of_lem as index_marks_of}
-use Rattle.viewers.specs.Viewers.{viewers, start, added, ask}
+use Rattle.viewers.specs.Viewers.{viewers, start, added}
 use Rattle.viewers.specs.declared.Viewers.{Viewers}
 use Rattle.viewers.proofs.Laws.{none_added, added_own}
 use Rattle.runs.specs.World.{Shared, Screen, Attribute, Picture, Index, World, with_viewers, Call, Read8088, Store8088, ReadZ80, StoreZ80, ReadShadow, WriteShadow, WritePort, VerticalTick, WatchdogTick, Draw, StoreWithPicture, IndexReaders, StoreWithIndex, DrawForViewers, StoreForViewers, StoreWithIndexForViewers, Ask, GlyphPart, DrawLine, ListLines, Explain, Answer, answered, after, answer}

@@ -1,8 +1,8 @@
 -- When the 8088 is in reset, told from the past: the statements of specs/Watchdog.antt.
-use Prim.Native.Nat.{ℕ, ◌+◌, ◌*◌, ◌/◌, ◌%◌, ◌<◌}
+use Prim.Native.Nat.{ℕ, ◌+◌, ◌*◌, ◌<◌}
 use mathlib.Core.Path.{◌≡◌, refl, sym, ap, ◌∙◌}
 use mathlib.Core.List.{List, [], ◌∷◌}
-use mathlib.Core.Bool.{Bool, true, false, not, cond, ◌&&◌, ◌||◌, true≢false, false≢true}
+use mathlib.Core.Bool.{Bool, true, false, not, cond, ◌&&◌, ◌||◌, false≢true}
 use native.Mathlib.Omega.{arith}
 use lib.Dec.{eqb, ltb}
 use borrow.Author.Tests.{eq-eqb, ne_eqb, eqb-true, not-false, ltb-true, ltb-false}
@@ -15,9 +15,9 @@ use Rattle.chain.proofs.Searching.{neither}
 use Rattle.runs.specs.World.{Nvm, Shadow, World, Call, Read8088, Store8088, ReadZ80, StoreZ80, ReadShadow, WriteShadow, WritePort, VerticalTick, WatchdogTick, Draw, StoreWithPicture, IndexReaders, StoreWithIndex, DrawForViewers, StoreForViewers, StoreWithIndexForViewers, Ask, GlyphPart, DrawLine, ListLines, Explain, after, answer}
 use Rattle.runs.specs.Kept.{lending, Step, Made, Lending, stepped}
 use Rattle.runs.specs.Stopped.{call_of, answer_of, stepped_all}
-use Rattle.runs.specs.Watchdog.{Event, Tick, Wrote, Nothing, happened, enabled, is09, enables, ticks, is128th, in_reset, since_reset, since_start, past_of, MeansTicks, CountMeansTicks, since_write, TopBitOfTheTimer}
+use Rattle.runs.specs.Watchdog.{Event, Tick, Wrote, Nothing, happened, enabled, ticks, is128th, in_reset, since_reset, since_start, past_of, CountMeansTicks, since_write, TopBitOfTheTimer}
 use Rattle.runs.proofs.Refused.{changes_nothing}
-use Rattle.runs.proofs.Ports.{restarts, Sets, port_reset, port_sets}
+use Rattle.runs.proofs.Ports.{Sets, port_reset, port_sets}
 
 -- what an event makes of a machine
 abbrev Follows : Event → (m n : Machine) → Type 0

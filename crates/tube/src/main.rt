@@ -6,35 +6,32 @@ mod image;
 mod settings;
 
 use lent::{ATTRIBUTE_BYTES, GLYPH_BYTES, PICTURE_BYTES, SCREEN_BYTES};
-use libc::{STDERR_FILENO, STDIN_FILENO};
+use std::io;
 
-fn main() {
-    let settings = settings::from_arguments();
+fn main(rt: HostRuntime) -> io::Result<()> {
+    let settings = settings::from_arguments(&rt);
     if settings.wrong {
-        io::write_all(
-            STDERR_FILENO,
-            b"tube: each argument must be 132, reverse, blink, blanked or latch=0 to latch=9\n",
+        return eprintln!(rt;
+            "tube: each argument must be 132, reverse, blink, blanked or latch=0 to latch=9"
         );
-        return;
     }
     let mut screen = [0; SCREEN_BYTES];
     let mut attribute = [0; ATTRIBUTE_BYTES];
     let mut table = [0; GLYPH_BYTES];
     // One byte more than is wanted tells input that is too long.
     let mut beyond = [0; 1];
-    let read = io::read_full(STDIN_FILENO, &mut screen);
-    let beside = io::read_full(STDIN_FILENO, &mut attribute);
-    let glyphs = io::read_full(STDIN_FILENO, &mut table);
-    let more = io::read_full(STDIN_FILENO, &mut beyond);
+    let mut input = rt.stdin();
+    let read = console::read_full(&mut input, &mut screen);
+    let beside = console::read_full(&mut input, &mut attribute);
+    let glyphs = console::read_full(&mut input, &mut table);
+    let more = console::read_full(&mut input, &mut beyond);
     if (read < SCREEN_BYTES) | (beside < ATTRIBUTE_BYTES) | (glyphs < GLYPH_BYTES) | (more > 0) {
-        io::write_all(
-            STDERR_FILENO,
-            b"tube: standard input must be 12288 bytes: screen, attribute and glyph memory\n",
+        return eprintln!(rt;
+            "tube: standard input must be 12288 bytes: screen, attribute and glyph memory"
         );
-        return;
     }
     let machine = settings::machine(settings);
     let mut picture = [0; PICTURE_BYTES];
     picture::draw(machine, &screen, &attribute, &mut picture);
-    image::write(machine, &picture, &table);
+    image::write(&rt, machine, &picture, &table)
 }

@@ -69,7 +69,7 @@ fn with_word(before: Settings, word: &[u8]) -> Settings {
 }
 
 // The settings that the program's arguments name.
-pub fn from_arguments() -> Settings {
+pub fn from_arguments(rt: &HostRuntime) -> Settings {
     let mut settings = Settings {
         columns132: false,
         reverse: false,
@@ -78,10 +78,13 @@ pub fn from_arguments() -> Settings {
         latch: 0,
         wrong: false,
     };
-    for i in 1..os::arg_count() {
+    for i in 1..usize::MAX {
+        if !console::has_argument(rt, i) {
+            return settings;
+        }
         // A longer word is none of the settings, and is answered as an empty one.
         let mut word = [0u8; 8];
-        let n = os::arg(i, &mut word);
+        let n = console::argument(rt, i, &mut word);
         settings = with_word(settings, &word[..n]);
     }
     settings

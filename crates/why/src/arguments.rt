@@ -61,22 +61,21 @@ fn cell(row: usize, column: usize, columns132: bool) -> Asked
     }
 }
 
-// What the program's arguments ask. The first is its own name.
-pub fn read() -> Asked {
-    let count = os::arg_count();
-    if (count < 3) | (count > 4) {
+// What the program's arguments ask: two or three words after its own name.
+pub fn read(rt: &HostRuntime) -> Asked {
+    if !console::has_argument(rt, 2) | console::has_argument(rt, 4) {
         return Asked::Wrong;
     }
     // Room for a byte more than is wanted: a word that is longer still is answered as an empty one.
     let mut word = [0u8; 4];
-    let n = os::arg(1, &mut word);
+    let n = console::argument(rt, 1, &mut word);
     let row = number(&word[..n]);
-    let n = os::arg(2, &mut word);
+    let n = console::argument(rt, 2, &mut word);
     let column = number(&word[..n]);
-    if count == 3 {
+    if !console::has_argument(rt, 3) {
         return cell(row, column, false);
     }
-    let n = os::arg(3, &mut word);
+    let n = console::argument(rt, 3, &mut word);
     if !ascii::same(&word[..n], b"132") {
         return Asked::Wrong;
     }

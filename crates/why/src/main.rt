@@ -9,9 +9,9 @@ ghost use Rattle.machine.specs.Settings.{columns};
 
 use arguments::Asked;
 use lent::{ATTRIBUTE_BYTES, NVM_BYTES, SCREEN_BYTES, SHADOW_BYTES};
-use libc::{STDERR_FILENO, STDIN_FILENO, STDOUT_FILENO};
 use machine::Machine;
 use sentences::TEXT_BYTES;
+use std::io;
 
 // The machine at power-up, which is at 80 columns, and if asked after the write to port 04 that sets 132.
 fn machine(columns132: bool) -> Machine
@@ -26,33 +26,28 @@ fn machine(columns132: bool) -> Machine
     ports::write_port(machine, &mut shadow, &mut nvm, 0x04, 0x10).machine
 }
 
-fn main() {
-    let asked = arguments::read();
+fn main(rt: HostRuntime) -> io::Result<()> {
+    let asked = arguments::read(&rt);
     let Asked::Cell {
         row,
         column,
         columns132,
     } = asked
     else {
-        io::write_all(
-            STDERR_FILENO,
-            b"why: wants a row, 0 to 24, a column, 0 to 131, and 132 if the screen has 132 columns\n",
+        return eprintln!(rt;
+            "why: wants a row, 0 to 24, a column, 0 to 131, and 132 if the screen has 132 columns"
         );
-        return;
     };
     let mut screen = [0; SCREEN_BYTES];
     let mut attribute = [0; ATTRIBUTE_BYTES];
     // One byte more than is wanted tells input that is too long.
     let mut beyond = [0; 1];
-    let read = io::read_full(STDIN_FILENO, &mut screen);
-    let beside = io::read_full(STDIN_FILENO, &mut attribute);
-    let more = io::read_full(STDIN_FILENO, &mut beyond);
+    let mut input = rt.stdin();
+    let read = console::read_full(&mut input, &mut screen);
+    let beside = console::read_full(&mut input, &mut attribute);
+    let more = console::read_full(&mut input, &mut beyond);
     if (read < SCREEN_BYTES) | (beside < ATTRIBUTE_BYTES) | (more > 0) {
-        io::write_all(
-            STDERR_FILENO,
-            b"why: standard input must be 8192 bytes: screen and attribute memory\n",
-        );
-        return;
+        return eprintln!(rt; "why: standard input must be 8192 bytes: screen and attribute memory");
     }
     let mut text = [0; TEXT_BYTES];
     let said = sentences::say(
@@ -64,5 +59,5 @@ fn main() {
         &mut text,
     );
     let bytes = said.bytes;
-    io::write_all(STDOUT_FILENO, &text[..bytes]);
+    rt.write_all(&text[..bytes])
 }
