@@ -8,7 +8,8 @@ returns-then-row-gt-LAST_ROW c = rw (lt-leb _ 24 c.if-row-gt-LAST_ROW.true)
 
 pub returns-then-column-gt-LAST_COLUMN : goal.returns-then-column-gt-LAST_COLUMN
 unfolding cell
-returns-then-column-gt-LAST_COLUMN c = rw (le-leb _ 24 c.if-row-gt-LAST_ROW.false, lt-leb _ 131 c.if-column-gt-LAST_COLUMN.true)
+returns-then-column-gt-LAST_COLUMN c =
+    rw (le-leb _ 24 c.if-row-gt-LAST_ROW.false, lt-leb _ 131 c.if-column-gt-LAST_COLUMN.true)
 
 pub returns : goal.returns
 unfolding cell

@@ -1,4 +1,5 @@
-use borrow.Author.Tests.{ne_eqb}
+use native.Mathlib.Omega.{arith}
+use Rattle.std.proofs.lemmas.Grind.{common_steps}
 use Rattle.why.proofs.Laws.{by_length}
 use Rattle.why.proofs.arguments.number.Goals as goal
 
@@ -18,5 +19,4 @@ returns-in-3 c = rw (
 )
 
 pub returns-in_default : goal.returns-in_default
-returns-in_default c = let none = c.in_default.in_default-own.rest in
-    rw (by_length, ne_eqb _ _ none.0.0.1, ne_eqb _ _ none.0.1, ne_eqb _ _ none.1)
+returns-in_default c = rw (by_length) (grind (arith, common_steps))
