@@ -18,17 +18,16 @@
 #                 questions; the monitor's scripts
 # make mutants    mutants of the code, each against the stored runs; CRATES='a b' for some crates
 # make bench      the library beside plain C and the best C that we can write, in time and in instructions
-# make emulated   the kit's own archive and programs, which are for x86-64, beside the library of this machine
 #
 # What is made again:
 # make counts     the functions of each crate, in docs/PROMISES.md
 # make expected   what the programs are given and must write, by the model in host/
 # make scripts    the monitor's long scripts, from their seeds
 # make png        the tube's pictures, docs/tube.png and docs/scroll.png
-.PHONY: all test check docs counts expected scripts png compare mutants host bench emulated clean
+.PHONY: all test check docs counts expected scripts png compare mutants host bench clean
 .PHONY: rust library programs install uninstall examples python
 .PHONY: model archive kit-library header-c header-c++ package-tests
-.PHONY: host-with host-load host-c host-c++ host-fences host-valgrind host-more host-both
+.PHONY: host-with host-load host-c host-c++ host-fences host-valgrind host-more host-both host-served
 
 CARGO ?= cargo
 HAS_CARGO := $(shell command -v $(CARGO))
@@ -48,10 +47,7 @@ LIBRARY ?= target/library
 LIBRARIES = target/library $(if $(KIT),target/library-kit)
 ARCHIVE = $(LIBRARY)/librainbow.a
 
-# RUN is a command put in front of each C program, for make emulated, where CROSS is a C compiler for x86-64.
 # Where the sanitizers or valgrind cannot be had, SANITIZE and VALGRIND may be empty.
-RUN ?=
-CROSS ?= $(if $(filter x86_64,$(MACHINE)),$(CC),x86_64-linux-gnu-gcc)
 SANITIZE ?= -fsanitize=address,undefined
 VALGRIND ?= valgrind -q --error-exitcode=1
 CALLS ?= 1000000
@@ -76,7 +72,7 @@ all:
 	@echo
 	@echo 'target/tube.pgm has the picture of the tube'
 	@if [ -n '$(HAS_CARGO)' ]; then $(MAKE) -s programs; \
-	else echo 'no cargo: the programs are for x86-64 alone; tools/run runs them all the same, by the kit'; fi
+	else echo 'no cargo: the programs are those of the kit alone; tools/run runs them'; fi
 
 test:
 	.ci/run
@@ -121,6 +117,7 @@ png: model programs
 		target/native/tube latch=$$latch < target/scroll/memories > target/scroll/$$latch.pgm || exit 1; done
 	$(MODEL)/pgm_to_png $(LATCHES:%=target/scroll/%.pgm) > docs/scroll.png
 
+# rt takes no tree with a symbolic link in it, so that librainbow.so is a second name of the file here.
 # The Cargo package. That it has the text of crates/ is checked each time.
 rust: model
 	@$(MODEL)/package . $(PACKAGE)
@@ -131,7 +128,7 @@ library: rust
 	@mkdir -p target/library
 	@cp -f target/cargo/library/release/librainbow.a target/library/librainbow.a
 	@cp -f target/cargo/library/release/librainbow.so target/library/$(SHARED)
-	@ln -sf $(SHARED) target/library/librainbow.so
+	@ln -f target/library/$(SHARED) target/library/librainbow.so
 	@echo 'target/library: librainbow.a, librainbow.so for $(MACHINE), by rustc'
 
 programs: rust
@@ -151,14 +148,14 @@ package-tests: rust
 
 # The kit's archive, and where it can be linked a shared object of it.
 archive:
-	rt staticlib rainbow
+	@tools/kit archive
 
 kit-library: archive
 	@mkdir -p target/library-kit
 	@cp -f target/staticlib/librainbow.a target/library-kit
 	$(CC) -shared -Wl,-soname,$(SHARED) -Wl,--whole-archive target/library-kit/librainbow.a -Wl,--no-whole-archive \
 		-o target/library-kit/$(SHARED)
-	@ln -sf $(SHARED) target/library-kit/librainbow.so
+	@ln -f target/library-kit/$(SHARED) target/library-kit/librainbow.so
 
 PREFIX ?= /usr/local
 DESTDIR ?=
@@ -199,7 +196,7 @@ compare: model programs
 	$(MODEL)/compare_tube target/native/tube 500
 	$(MODEL)/compare_why target/native/why 5000
 ifneq ($(KIT),)
-	rt check rows tube why
+	tools/kit programs rows tube why
 	$(MODEL)/compare_rows 'tools/run --kit rows' 5000
 	$(MODEL)/compare_tube 'tools/run --kit tube' 500
 	$(MODEL)/compare_why 'tools/run --kit why' 5000
@@ -214,7 +211,7 @@ host: library programs $(if $(KIT),kit-library)
 	@for library in $(LIBRARIES); do \
 		echo "-- $$library"; $(MAKE) host-with LIBRARY=$$library || exit 1; done
 	$(MAKE) host-more package-tests examples python
-	$(if $(KIT),$(MAKE) host-both)
+	$(if $(KIT),$(MAKE) host-both host-served)
 	CC='$(CC)' PYTHON='$(PYTHON)' tools/installed
 
 host-with: host-load host-c host-c++ host-fences host-valgrind
@@ -236,6 +233,13 @@ host-load: model
 host-both: model
 	$(LOAD) --calls $(CALLS) --against target/library/librainbow.so target/library-kit/librainbow.so
 
+# The kit's archive in a process of its own, which the kit's compiler and linker make, with fewer calls.
+SERVED_CALLS ?= 200000
+host-served: model archive library
+	@mkdir -p target/host
+	CC='$(CC)' tools/kit compile target/host/serve host/serve.c target/staticlib/librainbow.a
+	$(LOAD) --calls $(SERVED_CALLS) --against 'run:target/host/serve' target/library/librainbow.so
+
 # Each header by itself, twice, and the examples, none of them linked; with cargo also rainbow.h beside the functions
 # and structs of crates/.
 header-c header-c++: $(if $(HAS_CARGO),rust)
@@ -249,12 +253,12 @@ header-c header-c++: $(if $(HAS_CARGO),rust)
 # The examples run, as C and as C++.
 host-c: header-c
 	$(C) host/example/example.c $(ARCHIVE) -o target/host/example
-	$(RUN) target/host/example > target/host/printed.txt
+	target/host/example > target/host/printed.txt
 	diff host/example/expected.txt target/host/printed.txt
 	$(C) host/example/null.c $(ARCHIVE) -o target/host/null
-	$(RUN) target/host/null
+	target/host/null
 	$(C) host/example/computer.c $(ARCHIVE) -o target/host/computer
-	$(RUN) target/host/computer > target/host/printed.txt
+	target/host/computer > target/host/printed.txt
 	diff host/example/refusals.txt target/host/printed.txt
 
 host-c++: header-c++
@@ -269,12 +273,12 @@ host-c++: header-c++
 host-fences:
 	@mkdir -p target/host
 	$(C) $(SANITIZE) host/example/asan.c $(ARCHIVE) -o target/host/asan
-	$(RUN) target/host/asan
+	target/host/asan
 	$(C) $(SANITIZE) host/example/example.c $(ARCHIVE) -o target/host/example-watched
-	$(RUN) target/host/example-watched > target/host/printed.txt
+	target/host/example-watched > target/host/printed.txt
 	diff host/example/expected.txt target/host/printed.txt
 	$(C) $(SANITIZE) host/example/computer.c $(ARCHIVE) -o target/host/computer-watched
-	$(RUN) target/host/computer-watched > target/host/printed.txt
+	target/host/computer-watched > target/host/printed.txt
 	diff host/example/refusals.txt target/host/printed.txt
 
 host-valgrind: model
@@ -286,20 +290,6 @@ host-more: library
 	target/host/library
 	$(C) $(SANITIZE) host/example/library.c target/library/librainbow.a -o target/host/library-watched
 	target/host/library-watched
-
-# What the kit makes, on any machine that the kit is for: by its emulator if need be, with fewer calls.
-EMULATED_CALLS ?= 200000
-emulated: model archive library programs
-	@mkdir -p target/host
-	CC='$(CC)' tools/kit compile target/host/serve host/serve.c target/staticlib/librainbow.a
-	$(LOAD) --calls $(EMULATED_CALLS) --against 'run:tools/kit run target/host/serve' target/library/librainbow.so
-	rt check rows tube why
-	$(MODEL)/compare_rows 'tools/run --kit rows' 200
-	$(MODEL)/compare_tube 'tools/run --kit tube' 50
-	$(MODEL)/compare_why 'tools/run --kit why' 200
-	@if command -v $(CROSS) >/dev/null; then \
-		$(MAKE) host-c host-fences CC=$(CROSS) LIBRARY=target/staticlib RUN='tools/kit run' SANITIZE=; \
-	else echo 'no $(CROSS): the C programs are left out'; fi
 
 # The kit's library is a side of the bench beside rustc's, so each of its names gets kit_ ahead.
 target/host/libkit.a: kit-library
@@ -329,4 +319,4 @@ bench: library $(if $(KIT),target/host/libkit.a) $(if $(CLANG),target/host/best-
 	@bench/table target/host/bench
 
 clean:
-	rm -rf target host/target examples/rust/Cargo.lock python/__pycache__
+	rm -rf target host/target crates/*/out examples/rust/Cargo.lock python/__pycache__

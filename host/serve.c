@@ -1,7 +1,7 @@
 /* Makes calls of librainbow for a tester in another process: reads a call with the bytes that it is lent from standard
- * input, makes it, and writes the answer and those bytes, until the input ends. So a library for one processor can be
- * tried, under an emulator, from another. It uses no header of the C library, since for another processor there may
- * be none. host/src/rainbow/served.rs has the other end.
+ * input, makes it, and writes the answer and those bytes, until the input ends. So the kit's archive is tried in a
+ * program that the kit's own compiler and linker make. It uses no header of the C library, since the kit has none.
+ * host/src/rainbow/served.rs has the other end.
  *
  * A call: the function's number, the machine, two numbers, the viewers, how many buffers, and for each whether there is
  * one, its length and its bytes. An answer: the refusal, two numbers, the machine, what a drawing says of a wild link,

@@ -4,7 +4,7 @@
 //! usage: check_docs [--write] ROOT
 //! --write: writes the right counts into docs/PROMISES.md, and checks nothing else.
 use host::docs::{counts, lines};
-use host::rattle::tree::files_of;
+use host::rattle::tree::{files_of, listed};
 use std::collections::BTreeSet;
 use std::fs;
 use std::path::{Path, PathBuf};
@@ -53,7 +53,7 @@ fn documents(root: &Path) -> Vec<(String, String)> {
 fn crates(root: &Path) -> Vec<(String, usize)> {
     let list = read(&root.join("crates.txt"));
     let lines = list.lines().filter(|line| !line.starts_with('#'));
-    let names = lines.filter_map(|line| line.split_once(':'));
+    let names = lines.filter_map(listed);
     names
         .map(|(name, _)| {
             let files = files_of(root, name).unwrap_or_else(|error| give_up(error));
@@ -132,11 +132,11 @@ fn theorems(root: &Path, promises: &str) -> Vec<String> {
     let proved: BTreeSet<&str> = proofs
         .lines()
         .filter_map(|line| line.strip_prefix("pub ")?.split_whitespace().next())
-        .filter(|name| name.ends_with("-once"))
+        .filter(|name| name.ends_with("_once"))
         .collect();
     let named: BTreeSet<&str> = promises
         .split('`')
-        .filter(|name| name.ends_with("-once"))
+        .filter(|name| name.ends_with("_once"))
         .collect();
     let not_named = proved.difference(&named);
     let not_named = not_named.map(|name| format!("{PROMISES} does not name the theorem {name}"));

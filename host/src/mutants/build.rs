@@ -17,14 +17,13 @@ impl<'a> Shop<'a> {
     /// Writes all code to a folder and builds it.
     pub fn open(root: &Path, tree: &'a Tree, folder: PathBuf) -> Result<Shop<'a>, String> {
         let shop = Shop { tree, folder };
-        let kit = |name: &str, needs: &[&str]| Crate {
-            name: name.to_string(),
-            needs: needs.iter().map(|need| need.to_string()).collect(),
-            is_program: false,
-        };
         shop.write(root).map_err(|error| error.to_string())?;
-        for library in [kit("libc", &[]), kit("io", &["libc"]), kit("os", &["libc"])] {
-            shop.build(&library)?;
+        for (name, _) in kit::LIBRARIES {
+            shop.build(&Crate {
+                name: name.to_string(),
+                needs: Vec::new(),
+                is_program: false,
+            })?;
         }
         for one in &tree.crates {
             shop.build(one)?;

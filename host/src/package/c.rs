@@ -44,12 +44,14 @@ fn parameters<'a>(text: &'a str, tokens: &[Token], close: &str) -> Vec<Parameter
 
 /// The remark above the line that a token is in.
 fn remark(text: &str, at: usize) -> Vec<&str> {
-    let above = text[..at].lines().collect::<Vec<_>>();
-    let above = &above[..above.len().saturating_sub(1)];
-    let is_above = |line: &&&str| line.starts_with("//") || line.starts_with("#[");
+    let above = code::lines(text);
+    let above = &above[..text[..at].matches('\n').count()];
+    let is_above = |line: &&code::Line| {
+        line.ghost || line.text.starts_with("//") || line.text.starts_with("#[")
+    };
     let lines = above.iter().rev().take_while(is_above);
     let mut lines: Vec<&str> = lines
-        .copied()
+        .map(|line| line.text)
         .filter(|line| line.starts_with("//"))
         .collect();
     lines.reverse();
@@ -197,13 +199,23 @@ fn declared(kind: &str, rainbow: &[(String, String)]) -> Option<String> {
         if text.contains(&format!("pub struct {kind} {{")) {
             return Some(format!("use crate::rainbow::{module}::{kind};\n"));
         }
-        let used = format!("::{kind};");
-        let is_use = |line: &&str| line.starts_with("use ") && line.ends_with(&used);
-        if let Some(line) = text.lines().find(is_use) {
-            return Some(format!("{}\n", line.replacen("use ", "use crate::", 1)));
+        let of_line = text.lines().find_map(|line| used(line, kind));
+        if let Some(from) = of_line {
+            return Some(format!("use crate::{from}::{kind};\n"));
         }
     }
     None
+}
+
+/// The crate that a line uses a type of, alone or among others.
+fn used<'a>(line: &'a str, kind: &str) -> Option<&'a str> {
+    let (from, names) = line
+        .strip_prefix("use ")?
+        .strip_suffix(';')?
+        .split_once("::")?;
+    let names = names.strip_prefix('{').unwrap_or(names);
+    let names = names.strip_suffix('}').unwrap_or(names);
+    names.split(", ").any(|name| name == kind).then_some(from)
 }
 
 #[cfg(test)]
@@ -212,13 +224,17 @@ mod tests {
 
     const SCREEN: &str = "\
 use machine::Machine;
-use picture::Drawn;
+use picture::{Drawn, FirstWild};
 
 // Draws the picture
 // afresh.
-#[no_mangle]
+#[unsafe(no_mangle)]
+#[tactic(
+    auto,
+    unfolding(crate::specs::M::f),
+)]
 pub extern \"C\" fn rainbow_draw(machine: Machine, screen: &[u8], picture: &mut [u8], n: u16) -> Drawn
-    ensures { λ r. ⌜ drawn r ≡ draw machine ⌝ }
+    ensures { drawn result ≡ draw machine }
 {
     picture::draw(machine, screen, picture, n)
 }

@@ -4,7 +4,7 @@ pub mod module;
 pub mod prototypes;
 pub mod same;
 
-use crate::rattle::kit;
+use crate::rattle::kit::{self, is_kit};
 use crate::rattle::tree::{files_of, Crate, Tree};
 use std::collections::BTreeMap;
 use std::fs;
@@ -47,10 +47,6 @@ fn use_line(from: &str, mut names: Vec<&str>) -> Option<String> {
     }
 }
 
-fn is_kit(name: &str) -> bool {
-    kit::LIBRARIES.iter().any(|(one, _)| *one == name)
-}
-
 /// Where a file of a crate goes. A crate of one file is a file.
 fn place(one: &Crate, file: &str, alone: bool) -> PathBuf {
     let stem = Path::new(file).file_stem().unwrap_or_default();
@@ -69,7 +65,7 @@ fn library_uses(one: &Crate, text: &str) -> Vec<String> {
     use_line("crate", names).into_iter().collect()
 }
 
-/// What a file of a program is told: the library, and the kit's parts, which its first file declares.
+/// What a file of a program is told: the library, and what stands for the kit's, which its first file declares.
 fn program_uses(one: &Crate, text: &str, is_main: bool) -> Vec<String> {
     let names = module::named(text, &one.needs);
     let (kit, library): (Vec<&str>, Vec<&str>) = names.into_iter().partition(|name| is_kit(name));
@@ -86,6 +82,7 @@ fn program_uses(one: &Crate, text: &str, is_main: bool) -> Vec<String> {
     if !is_main {
         lines.extend(use_line("crate", kit));
     }
+    lines.extend(use_line("crate::console", module::of_console(text)));
     lines.extend(use_line("rainbow", library));
     lines
 }
@@ -107,9 +104,13 @@ fn of_crate(root: &Path, one: &Crate) -> io::Result<Files> {
         } else {
             library_uses(one, &text)
         };
+        let mut made = module::module(&text, &uses, in_loops(&one.name));
+        if made.contains(kit::MAIN) {
+            made = made.replacen(kit::MAIN, kit::RENAMED, 1) + kit::CALLER;
+        }
         let made = Made {
             source: Some(source.clone()),
-            text: module::module(&text, &uses, in_loops(&one.name)),
+            text: made,
         };
         files.insert(place(one, source, sources.len() == 1), made);
     }
@@ -120,23 +121,10 @@ fn by_hand(text: String) -> Made {
     Made { source: None, text }
 }
 
-/// One of the kit's libraries, after whose own remark the modules stand that it names.
-fn kit_file(text: &str) -> Made {
-    let names: Vec<String> = kit::LIBRARIES.map(|(name, _)| name.to_string()).to_vec();
-    let uses =
-        use_line("crate", module::named(text, &names)).map_or(String::new(), |line| line + "\n");
-    let remark: usize = text
-        .split_inclusive('\n')
-        .take_while(|line| line.starts_with("//!"))
-        .map(str::len)
-        .sum();
-    by_hand(format!("{}{uses}{}", &text[..remark], &text[remark..]))
-}
-
 /// The modules of the library, as lines of its first file.
 fn modules(tree: &Tree) -> String {
     let mut names: Vec<&str> = tree.libraries().map(|one| one.name.as_str()).collect();
-    names.retain(|name| *name != C_NAMES && !is_kit(name));
+    names.retain(|name| *name != C_NAMES);
     names.sort_unstable();
     let mut lines = format!(
         "#[cfg(rainbow_c)]\n#[allow(unsafe_code)]\nmod c;\n#[cfg(rainbow_c)]\nmod {C_NAMES};\n\n"
@@ -182,6 +170,15 @@ fn texts(root: &Path, names: &[&str]) -> io::Result<Vec<(String, String)>> {
     Ok(texts)
 }
 
+/// The struct that a text declares at its beginning, after a derive.
+fn declared(text: &str) -> Option<&str> {
+    let text = match text.strip_prefix("#[derive(") {
+        Some(rest) => rest.split_once(")]\n")?.1,
+        None => text,
+    };
+    Some(text.strip_prefix("pub struct ")?.split_once(' ')?.0)
+}
+
 /// A function that the header has and the crate has not, or the other way round.
 fn not_in_both<'a>(header: &'a str, functions: &[c::Function<'a>]) -> Option<&'a str> {
     let there = prototypes::declared(header);
@@ -202,13 +199,12 @@ fn for_c(root: &Path, tree: &Tree) -> io::Result<(String, String)> {
         let why = format!("rainbow.h and crate {C_NAMES} do not both have {name}");
         return Err(wrong(why));
     }
-    let libraries = tree.libraries().map(|one| one.name.as_str());
-    let libraries: Vec<&str> = libraries.filter(|name| !is_kit(name)).collect();
+    let libraries: Vec<&str> = tree.libraries().map(|one| one.name.as_str()).collect();
     let texts = texts(root, &libraries)?;
     let mut structs: Vec<(&str, &str)> = Vec::new();
     for (_, text) in &texts {
-        let after = text.split("#[repr(C)]\npub struct ").skip(1);
-        structs.extend(after.filter_map(|rest| Some((rest.split_once(' ')?.0, text.as_str()))));
+        let after = text.split("#[repr(C)]\n").skip(1);
+        structs.extend(after.filter_map(|rest| Some((declared(rest)?, text.as_str()))));
     }
     let machine = structs.iter().find(|(name, _)| *name == "Machine");
     let (_, machine) = machine.ok_or_else(|| wrong("no crate declares the machine"))?;
@@ -220,11 +216,14 @@ fn for_c(root: &Path, tree: &Tree) -> io::Result<(String, String)> {
 fn files(root: &Path) -> io::Result<Files> {
     let tree = Tree::of(root, &CRATES)?;
     let mut files = Files::new();
-    for one in tree.crates.iter().filter(|one| !is_kit(&one.name)) {
+    for one in &tree.crates {
         files.extend(of_crate(root, one)?);
     }
     for (name, text) in kit::LIBRARIES {
-        files.insert(format!("src/kit/{name}.rs").into(), kit_file(text));
+        files.insert(
+            format!("src/kit/{name}.rs").into(),
+            by_hand(text.to_string()),
+        );
     }
     let (c_file, prototypes) = for_c(root, &tree)?;
     files.insert(C_FILE.into(), by_hand(c_file));

@@ -2,6 +2,7 @@
 //! comments, and what Rust has to be told beside it is added outside of the functions: the modules that the file names,
 //! that structs and enums are values that are copied, and which functions are parts of the loops that call them.
 use crate::rattle::code::{self, Token};
+use crate::rattle::kit;
 
 /// The text of a module. `uses` are the lines that name other modules, `in_loops` the functions that become parts of the
 /// loops that call them.
@@ -57,7 +58,7 @@ fn needs_its_caller(lines: &[code::Line]) -> bool {
         && lines
             .iter()
             .take_while(head)
-            .any(|line| line.ghost && line.text.trim_start().starts_with("requires {"))
+            .any(|line| line.ghost && code::is_clause(line.text.trim_start(), "requires"))
 }
 
 fn is_function(line: &str) -> bool {
@@ -119,7 +120,7 @@ impl<'a> Writer<'a> {
             self.begin(uses);
         }
         self.flush(!line.trim().is_empty());
-        if line == "#[no_mangle]" {
+        if line == "#[unsafe(no_mangle)]" {
             return;
         }
         if line.is_empty() && self.out.last().map_or(true, String::is_empty) {
@@ -185,12 +186,24 @@ pub fn named<'a>(text: &str, needs: &'a [String]) -> Vec<&'a str> {
     named.map(String::as_str).collect()
 }
 
+/// What the code of a file names of the kit's std that Rust has from console.
+pub fn of_console(text: &str) -> Vec<&str> {
+    let tokens = code::tokens(text);
+    let words: Vec<&str> = tokens
+        .iter()
+        .map(|token| &text[token.span.clone()])
+        .collect();
+    kit::names(&words)
+}
+
 #[cfg(test)]
 mod tests {
     use super::*;
 
     const FILE: &str = "\
 // A part of the machine.
+#![tactic(auto)]
+
 ghost use a.{b};
 use lent::ByteRead;
 
@@ -201,16 +214,21 @@ const A: [u8; 2] = [
 
 // Of two bytes.
 #[repr(C)]
+#[derive(Clone, Copy)]
 pub struct S {
     // The first.
     pub a: u8,
 }
 
 // One more.
+#[tactic(
+    auto,
+    unfolding(crate::specs::M::g),
+)]
 pub fn f(a: u8) -> u8
-    requires { ⌜ a ≡ Unit {0} ⌝ }
-    ensures { λ r. ⌜ r
-        ≡ a ⌝ }
+    requires unit { a ≡ Unit {0} }
+    ensures { result
+        ≡ a }
 {
     // Less.
     other::g(a) + lent::ONE

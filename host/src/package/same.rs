@@ -87,18 +87,34 @@ fn block(tokens: &[Token], open: &str, close: &str) -> usize {
     tokens.len()
 }
 
-/// What the prover alone reads, how C is told of a function, and how a table is laid out: so many tokens at the
-/// beginning may be left out.
+/// Whether a clause of a contract begins here, with a name or without.
+fn is_clause(tokens: &[Token]) -> bool {
+    let name = match tokens.get(1) {
+        Some(second) if second.text == "{" => 0,
+        Some(second) if second.text.chars().all(is_word) => 1,
+        _ => return false,
+    };
+    (starts(tokens, &["requires"]) || starts(tokens, &["ensures"]))
+        && starts(&tokens[1 + name..], &["{"])
+}
+
+/// What the prover alone reads, how C is told of a function, how a table is laid out, and which types are values that
+/// are copied, which Rust is told by a derive of its own: so many tokens at the beginning may be left out.
 fn left_out(source: &[Token]) -> usize {
+    const ATTRIBUTES: [&[&str]; 5] = [
+        &["#", "[", "unsafe", "(", "no_mangle", ")", "]"],
+        &["#", "[", "rattlefmt", ":", ":", "skip", "]"],
+        &["#", "!", "[", "tactic", "("],
+        &["#", "[", "tactic", "("],
+        &["#", "[", "derive", "("],
+    ];
     if starts(source, &["ghost", "use"]) {
         return up_to(source, ";");
     }
-    if starts(source, &["requires", "{"]) || starts(source, &["ensures", "{"]) {
+    if is_clause(source) {
         return block(source, "{", "}");
     }
-    if starts(source, &["#", "[", "no_mangle", "]"])
-        || starts(source, &["#", "[", "rattlefmt", ":", ":", "skip", "]"])
-    {
+    if ATTRIBUTES.iter().any(|begin| starts(source, begin)) {
         return block(source, "[", "]");
     }
     if starts(source, &["extern", "\"C\""]) {
@@ -145,10 +161,30 @@ pub struct Compared {
     pub tokens: usize,
 }
 
+/// What stands at the end of a program's first file beside its source: a `main` that takes nothing, and calls the one
+/// that is proved, which has another name.
+const RENAMED: [&str; 2] = ["fn", "proved_main"];
+const CALLER: &str = "fn main() -> std::io::Result<()> { proved_main(HostRuntime) }";
+
+/// The tokens without that `main`, and the other one by its own name.
+fn without_caller(mut made: Vec<Token<'_>>) -> Vec<Token<'_>> {
+    let caller: Vec<&str> = tokens(CALLER).iter().map(|token| token.text).collect();
+    let rest = made.len().saturating_sub(caller.len());
+    if starts(&made[rest..], &caller) {
+        made.truncate(rest);
+        for at in 1..rest {
+            if starts(&made[at - 1..], &RENAMED) {
+                made[at].text = "main";
+            }
+        }
+    }
+    made
+}
+
 /// Compares a file of the package with its source. The source may begin as what is added does, so each number of
 /// added parts is tried.
 pub fn compare(source: &str, made: &str) -> Result<Compared, String> {
-    let (source, made) = (tokens(source), tokens(made));
+    let (source, made) = (tokens(source), without_caller(tokens(made)));
     let mut begin = 0;
     let mut furthest = (0, String::new());
     loop {
@@ -171,6 +207,17 @@ fn from(source: &[Token], made: &[Token]) -> Result<Compared, (usize, String)> {
     // In the head of a function, and whether it is public; how deep in the braces of a body.
     let (mut head, mut public, mut depth) = (false, false, 0);
     while i < source.len() || j < made.len() {
+        // Attributes as wholes, since each begins like every other.
+        if depth == 0 {
+            if starts(&source[i..], &["#"]) && left_out(&source[i..]) > 0 {
+                i += left_out(&source[i..]);
+                continue;
+            }
+            if starts(&made[j..], &["#"]) && added(&made[j..], None) > 0 {
+                j += added(&made[j..], None);
+                continue;
+            }
+        }
         let (old, new) = (source.get(i), made.get(j));
         if old.map(|token| token.text) != new.map(|token| token.text) {
             let before = j.checked_sub(1).map(|j| &made[j]);
@@ -231,18 +278,26 @@ mod tests {
 
     const FILE: &str = "\
 // A part.
+#![tactic(auto)]
+
 ghost use a.{b};
 use lent::ByteRead;
 
 #[repr(C)]
+#[derive(Clone, Copy)]
 pub struct S {
     pub a: u8,
 }
 
 // One more.
-#[no_mangle]
+#[unsafe(no_mangle)]
+#[tactic(
+    auto,
+    unfolding(crate::specs::M::g),
+)]
 pub extern \"C\" fn f(a: u8) -> u8
-    requires { ⌜ a ≡ Unit {0} ⌝ }
+    requires unit { a ≡ Unit {0} }
+    ensures { result ≡ a }
 {
     if a < b'\\'' { // less
         return 1;
@@ -271,6 +326,7 @@ pub extern \"C\" fn f(a: u8) -> u8
             ("lent::put(b\"a // b\")", "lent::put(b\"a // c\")"),
             ("pub a: u8", "pub a: u16"),
             ("#[repr(C)]\n", ""),
+            ("#[repr(C)]\n", "#[repr(C)]\n#[tactic(auto)]\n"),
             ("use lent::ByteRead;", "use lent::Other;"),
             ("    if a", "    use crate::lent;\n    if a"),
             ("    if a", "    #[allow(dead_code)]\n    if a"),
@@ -300,6 +356,23 @@ pub extern \"C\" fn f(a: u8) -> u8
         let made = module(source, &[], &["f"]);
         assert_eq!(made, "const A: u8 = 1;\n\n#[inline(always)]\nfn f() {}\n");
         assert!(compare(source, &made).is_ok());
+    }
+
+    #[test]
+    fn a_main_that_takes_the_system() {
+        let source = "fn main(rt: HostRuntime) -> io::Result<()> {\n    f(&rt)\n}\n";
+        let made = source.replacen("main", "proved_main", 1) + CALLER;
+        assert!(compare(source, &made).is_ok());
+        for (old, new) in [
+            ("    f(&rt)", "    g(&rt)"),
+            ("fn proved_main", "fn other_main"),
+            ("proved_main(HostRuntime)", "f(&HostRuntime)"),
+            ("{ proved_main", "{ f(); proved_main"),
+        ] {
+            let other = made.replacen(old, new, 1);
+            assert_ne!(other, made, "{old}");
+            assert!(compare(source, &other).is_err(), "{old} -> {new}");
+        }
     }
 
     #[test]

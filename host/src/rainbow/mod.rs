@@ -1,5 +1,5 @@
 //! A library with the calls of include/rainbow.h: a shared object that is loaded, or a program that makes the calls in
-//! a process of its own (host/serve.c), which may be for another processor and run by an emulator.
+//! a process of its own (host/serve.c).
 mod answers;
 mod loaded;
 mod served;

@@ -1,4 +1,5 @@
 //! The code in a file of Rattle: what the prover alone reads taken away, the rest as tokens.
+use super::kit;
 use std::ops::Range;
 
 #[derive(Clone, Copy, PartialEq, Debug)]
@@ -22,7 +23,23 @@ const SIGNS: [&str; 20] = [
     "..", "/=", "%=", "|=", "&=",
 ];
 
-/// The `ghost use` lines and the contracts, and the lines that the kit's formatter alone reads.
+/// Attributes that the kit alone reads: how it lays a line out, what its prover tries, and which types are copied or
+/// may be let go, which Rust is told by `derive` of its own.
+const ATTRIBUTES: [&str; 4] = ["#[rattlefmt::skip]", "#![tactic(", "#[tactic(", "#[derive("];
+
+/// Whether a clause of a contract begins here: `ensures { .. }`, or one that has a name, `ensures upper_bound { .. }`.
+pub fn is_clause(code: &str, kind: &str) -> bool {
+    let rest = match code.strip_prefix(kind) {
+        Some(rest) => rest.strip_prefix(' '),
+        None => None,
+    };
+    rest.is_some_and(|rest| {
+        let name = rest.trim_start_matches(is_word);
+        rest.starts_with('{') || name.len() < rest.len() && name.starts_with(" {")
+    })
+}
+
+/// The `ghost use` lines and the contracts, and the attributes that the kit alone reads.
 fn ghost_parts(text: &str) -> Vec<Range<usize>> {
     let mut parts: Vec<Range<usize>> = Vec::new();
     let mut at = 0;
@@ -33,24 +50,28 @@ fn ghost_parts(text: &str) -> Vec<Range<usize>> {
         if parts.last().is_some_and(|part| from < part.end) {
             continue;
         }
-        if code.starts_with("ghost use ") || code.starts_with("#[rattlefmt::skip]") {
+        if code.starts_with("ghost use ") {
             parts.push(from..at - 1);
-        } else if code.starts_with("requires {") || code.starts_with("ensures {") {
-            parts.push(from..from + block(&text[from..]));
+        } else if ATTRIBUTES.iter().any(|begin| code.starts_with(begin)) {
+            parts.push(from..from + block(&text[from..], '[', ']'));
+        } else if is_clause(code, "requires") || is_clause(code, "ensures") {
+            parts.push(from..from + block(&text[from..], '{', '}'));
         }
     }
     parts
 }
 
-/// The bytes up to the end of the first block in braces.
-fn block(text: &str) -> usize {
+/// The bytes up to the end of the first block in these brackets.
+fn block(text: &str, open: char, close: char) -> usize {
     let mut depth = 0;
     for (at, character) in text.char_indices() {
-        match character {
-            '{' => depth += 1,
-            '}' if depth == 1 => return at + 1,
-            '}' => depth -= 1,
-            _ => {}
+        if character == open {
+            depth += 1;
+        } else if character == close {
+            depth -= 1;
+            if depth == 0 {
+                return at + 1;
+            }
         }
     }
     text.len()
@@ -78,15 +99,32 @@ pub fn lines(text: &str) -> Vec<Line<'_>> {
     lines
 }
 
-/// The file as Rust: without what the kit alone reads; structs and enums are values that are copied.
+/// What a file has to be told of crate console, whose names stand for some of the kit's std.
+fn uses(text: &str) -> String {
+    let tokens = tokens(text);
+    let words: Vec<&str> = tokens
+        .iter()
+        .map(|token| &text[token.span.clone()])
+        .collect();
+    match kit::names(&words).join(", ") {
+        names if names.is_empty() => names,
+        names => format!("use console::{{{names}}};\n"),
+    }
+}
+
+/// The file as Rust: without what the kit alone reads; structs and enums are values that are copied; a `main` that
+/// takes nothing.
 pub fn rust(text: &str) -> String {
-    let mut code = String::new();
+    let mut code = uses(text);
     let mut at = 0;
     for part in ghost_parts(text) {
         code.push_str(&text[at..part.start]);
         at = part.end;
     }
     code.push_str(&text[at..]);
+    if code.contains(kit::MAIN) {
+        code = code.replacen(kit::MAIN, kit::RENAMED, 1) + kit::CALLER;
+    }
     let value = |line: &str| {
         let line = line.strip_prefix("pub ").unwrap_or(line);
         line.starts_with("struct ") || line.starts_with("enum ")
@@ -176,17 +214,24 @@ mod tests {
 
     const FILE: &str = "\
 // A file.
+#![tactic(auto)]
+
 ghost use a.{b};
 #[rattlefmt::skip]
 #[repr(C)]
+#[derive(Clone, Copy)]
 pub struct S {
     pub a: u8,
 }
 
+#[tactic(
+    auto,
+    unfolding(crate::specs::M::f),
+)]
 pub fn f(a: u8) -> u8
-    requires { ⌜ a ≡ Unit {0} ⌝ }
-    ensures { λ r. ⌜ r
-        ≡ a ⌝ }
+    requires { a ≡ Unit {0} }
+    ensures value { result
+        ≡ a }
 {
     a <= b'+' // less
 }
@@ -196,9 +241,20 @@ pub fn f(a: u8) -> u8
     fn contracts_are_taken_away() {
         let code = rust(FILE);
         assert!(!code.contains('≡') && !code.contains("ghost") && !code.contains("skip"));
+        assert!(!code.contains("tactic") && !code.contains("unfolding"));
         assert!(code.contains("#[derive(Clone, Copy)]\npub struct S {"));
+        assert_eq!(code.matches("derive").count(), 1);
         assert!(code.contains("pub fn f(a: u8) -> u8"));
         assert!(code.contains("    a <= b'+' // less\n}"));
+    }
+
+    #[test]
+    fn a_clause_may_have_a_name() {
+        assert!(is_clause("ensures { a }", "ensures"));
+        assert!(is_clause("requires upper_bound { a }", "requires"));
+        assert!(!is_clause("requires upper_bound { a }", "ensures"));
+        assert!(!is_clause("ensures.push(a);", "ensures"));
+        assert!(!is_clause("requires = a { b }", "requires"));
     }
 
     #[test]

@@ -1,4 +1,5 @@
 //! The crates of crates.txt, what each is made of, and their files.
+use super::kit;
 use std::fs;
 use std::io;
 use std::path::Path;
@@ -10,7 +11,7 @@ pub struct Crate {
     pub is_program: bool,
 }
 
-/// Some crates and all that they are made of, each after what it needs.
+/// Some crates and all that they are made of, each after what it needs; but for those that are written by hand in Rust.
 pub struct Tree {
     pub crates: Vec<Crate>,
 }
@@ -20,10 +21,7 @@ impl Tree {
     pub fn of(root: &Path, names: &[&str]) -> io::Result<Tree> {
         let text = fs::read_to_string(root.join("crates.txt"))?;
         let lines = text.lines().filter(|line| !line.starts_with('#'));
-        let listed: Vec<(&str, Vec<&str>)> = lines
-            .filter_map(|line| line.split_once(':'))
-            .map(|(name, needs)| (name, needs.split_whitespace().collect()))
-            .collect();
+        let listed: Vec<(&str, Vec<&str>)> = lines.filter_map(listed).collect();
         let mut crates = Vec::new();
         for name in names {
             visit(name, &listed, &mut crates);
@@ -52,9 +50,17 @@ impl Tree {
     }
 }
 
+/// The crate that a line of crates.txt lists, `NAME: NEED ..` or `NAME staticlib: NEED ..`, and what it needs.
+pub fn listed(line: &str) -> Option<(&str, Vec<&str>)> {
+    let (name, needs) = line.split_once(':')?;
+    let name = name.split_whitespace().next()?;
+    Some((name, needs.split_whitespace().collect()))
+}
+
 fn visit(name: &str, listed: &[(&str, Vec<&str>)], crates: &mut Vec<Crate>) {
+    let is_there = kit::is_kit(name) || crates.iter().any(|one| one.name == name);
     let needs = match listed.iter().find(|(one, _)| *one == name) {
-        Some((_, needs)) if crates.iter().all(|one| one.name != name) => needs,
+        Some((_, needs)) if !is_there => needs,
         _ => return,
     };
     for need in needs {
