@@ -1,9 +1,10 @@
 //! Checks the documents against the tree: every definition and every must-fail edit is named, every file, link and
 //! theorem that is named is there, the functions are counted right, what docs/READING.md quotes is quoted right, and so
-//! are files that a document quotes whole, and no line is too long.
+//! are files that a document quotes whole, and no line is too long. And the exports of crate rainbow_c are what crate
+//! rainbow has.
 //! usage: check_docs [--write] ROOT
 //! --write: writes the right counts into docs/PROMISES.md, and checks nothing else.
-use host::docs::{counts, lines};
+use host::docs::{counts, exports, lines};
 use host::rattle::tree::{files_of, listed};
 use std::collections::BTreeSet;
 use std::fs;
@@ -201,6 +202,18 @@ fn long(name: &str, text: &str, tree: &BTreeSet<String>) -> Vec<String> {
     .collect()
 }
 
+/// What the archive for C exports otherwise than the library has it.
+fn exported(root: &Path) -> Vec<String> {
+    let of_module = |library: PathBuf| -> Vec<String> {
+        let module = library.file_stem().unwrap_or_default().to_string_lossy();
+        let archive = root.join(format!("crates/rainbow_c/src/{module}.rt"));
+        exports::problems(&module, &read(&library), &read(&archive))
+    };
+    let mut modules = files(root, "src", ".rt");
+    modules.retain(|file| file.starts_with(root.join("crates/rainbow/src")));
+    modules.into_iter().flat_map(of_module).collect()
+}
+
 fn check(root: &Path) -> Vec<String> {
     let (manuals, promises) = (read(&root.join(MANUALS)), read(&root.join(PROMISES)));
     let tree = tree_lines(root);
@@ -209,6 +222,7 @@ fn check(root: &Path) -> Vec<String> {
     problems.extend(theorems(root, &promises));
     problems.extend(counts::problems(&promises, &crates(root)));
     problems.extend(misquoted(&read(&root.join(READING)), &tree));
+    problems.extend(exported(root));
     for (name, text) in documents(root) {
         problems.extend(missing(root, &name, &text));
         problems.extend(not_the_file(root, &name, &text));
