@@ -117,11 +117,11 @@ png: model programs
 		target/native/tube latch=$$latch < target/scroll/memories > target/scroll/$$latch.pgm || exit 1; done
 	$(MODEL)/pgm_to_png $(LATCHES:%=target/scroll/%.pgm) > docs/scroll.png
 
-# rt takes no tree with a symbolic link in it, so that librainbow.so is a second name of the file here.
 # The Cargo package. That it has the text of crates/ is checked each time.
 rust: model
 	@$(MODEL)/package . $(PACKAGE)
 
+# rt takes no tree with a symbolic link in it, so librainbow.so is a second name of the file here.
 library: rust
 	@$(CARGO) rustc -q --release --lib --crate-type staticlib,cdylib --manifest-path $(PACKAGE)/Cargo.toml \
 		--target-dir target/cargo/library -- --cfg rainbow_c -C link-arg=-Wl,-soname,$(SHARED)
