@@ -2,7 +2,7 @@
 use crate::{desk, say};
 use std::fs::File;
 use std::io;
-use std::io::{Read, Write};
+use std::io::{Read, Stdin, Write};
 
 const PATH_BYTES: usize = 256;
 
@@ -14,35 +14,62 @@ const LINE_BYTES: usize = 200;
 
 pub const TEXT_BYTES: usize = LINE_BYTES + 1;
 
-// The bytes of a line that was read.
-#[derive(Clone, Copy)]
-pub struct Typed {
-    pub bytes: usize,
-    // There was no line any more.
-    pub ended: bool,
+// Standard input, a file that an argument names, or nothing where that file cannot be opened.
+#[derive(Drop)]
+pub enum Input {
+    Typed(Stdin),
+    Named(File),
+    Nothing,
 }
 
-// The file that an argument names. One that cannot be opened is told, and is none.
-pub fn opened(rt: &HostRuntime, argument: usize) -> io::Result<Option<File>> {
-    let mut path = [0u8; PATH_BYTES];
-    let n = console::argument(rt, argument, &mut path);
-    let path = &path[..n];
-    match std::str::from_utf8(path) {
-        Ok(path) => open(rt, path),
-        Err(_) => {
-            let path = path.escape_ascii();
-            eprintln!(rt; "monitor: each argument must be a file of lines: {path}: not UTF-8")?;
-            Ok(None)
-        }
+// Where lines are read, and the bytes of the last line. Argument 0 stands for standard input.
+#[derive(Drop)]
+pub struct Source {
+    pub input: Input,
+    pub argument: usize,
+    pub bytes: usize,
+    // There is no line any more.
+    pub over: bool,
+}
+
+#[derive(Clone, Copy)]
+struct Typed {
+    bytes: usize,
+    // There was no line any more.
+    ended: bool,
+}
+
+fn from_start(input: Input, argument: usize) -> Source {
+    Source {
+        input,
+        argument,
+        bytes: 0,
+        over: false,
     }
 }
 
-fn open(rt: &HostRuntime, path: &str) -> io::Result<Option<File>> {
+// The file that an argument names. One that cannot be opened is told, and reads as an empty one.
+fn opened(rt: &HostRuntime, argument: usize) -> io::Result<Source> {
+    let mut path = [0u8; PATH_BYTES];
+    let n = console::argument(rt, argument, &mut path);
+    let path = &path[..n];
+    let input = match std::str::from_utf8(path) {
+        Ok(path) => open(rt, path)?,
+        Err(_) => {
+            let path = path.escape_ascii();
+            eprintln!(rt; "monitor: each argument must be a file of lines: {path}: not UTF-8")?;
+            Input::Nothing
+        }
+    };
+    Ok(from_start(input, argument))
+}
+
+fn open(rt: &HostRuntime, path: &str) -> io::Result<Input> {
     match console::open(rt, path) {
-        Ok(file) => Ok(Some(file)),
+        Ok(file) => Ok(Input::Named(file)),
         Err(why) => {
             tell(rt, path, why)?;
-            Ok(None)
+            Ok(Input::Nothing)
         }
     }
 }
@@ -63,15 +90,52 @@ fn words(text: &str) -> &str {
     }
 }
 
-// The line that was read.
-pub fn line(typed: Typed, text: &[u8]) -> &[u8] {
-    let bytes = desk::up_to(typed.bytes, text);
-    &text[0..bytes]
+// The first file, or standard input where no argument names one.
+pub fn first(rt: &HostRuntime) -> io::Result<Source> {
+    if console::has_argument(rt, 1) {
+        return opened(rt, 1);
+    }
+    Ok(from_start(Input::Typed(rt.stdin()), 0))
 }
 
-// Shows a line of a file ahead of its answer, so that what is written reads alone. A remark is its own answer, and of
-// a line that is too long only the beginning was kept.
-pub fn echo(rt: &HostRuntime, line: &[u8]) -> io::Result<()> {
+// Reads a line. Where a file has ended this is an empty one, and the next file follows.
+pub fn next(rt: &HostRuntime, source: Source, text: &mut [u8]) -> io::Result<Source> {
+    let mut source = source;
+    let typed = match &mut source.input {
+        Input::Typed(from) => next_line(from, text),
+        Input::Named(from) => next_line(from, text),
+        Input::Nothing => Typed {
+            bytes: 0,
+            ended: true,
+        },
+    };
+    source.bytes = typed.bytes;
+    if !typed.ended {
+        return Ok(source);
+    }
+    let argument = source.argument;
+    if argument < usize::MAX {
+        if console::has_argument(rt, argument + 1) {
+            return opened(rt, argument + 1);
+        }
+    }
+    source.over = true;
+    Ok(source)
+}
+
+// The line that was read. One of a file is shown first, so that what is written reads alone.
+pub fn line<'a>(rt: &HostRuntime, source: &Source, text: &'a [u8]) -> io::Result<&'a [u8]> {
+    let bytes = desk::up_to(source.bytes, text);
+    let line = &text[0..bytes];
+    if source.argument > 0 {
+        echo(rt, line)?;
+    }
+    Ok(line)
+}
+
+// Shows a line ahead of its answer. A remark is its own answer, and of a line that is too long only the beginning was
+// kept.
+fn echo(rt: &HostRuntime, line: &[u8]) -> io::Result<()> {
     if is_long(line) | is_remark(line) {
         return Ok(());
     }
@@ -98,8 +162,9 @@ fn skip_line<R: Read>(from: &mut R) {
 }
 
 // Reads a line without its end. The last line of a file may have none.
-pub fn next_line<R: Read>(from: &mut R, text: &mut [u8; TEXT_BYTES]) -> Typed {
-    for bytes in 0..TEXT_BYTES {
+fn next_line<R: Read>(from: &mut R, text: &mut [u8]) -> Typed {
+    let most = text.len();
+    for bytes in 0..most {
         let mut one = [0u8; 1];
         if !is_read(from, &mut one) {
             return Typed {
@@ -117,7 +182,7 @@ pub fn next_line<R: Read>(from: &mut R, text: &mut [u8; TEXT_BYTES]) -> Typed {
     }
     skip_line(from);
     Typed {
-        bytes: TEXT_BYTES,
+        bytes: most,
         ended: false,
     }
 }

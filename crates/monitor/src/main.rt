@@ -16,9 +16,10 @@ mod watching;
 mod why;
 
 use desk::Desk;
+use input::Source;
 use std::io;
-use std::io::Read;
 
+// Takes lines to the end of the input. A proved loop has to end, so it counts to a number that no run reaches.
 fn main(rt: HostRuntime) -> io::Result<()> {
     let mut shared = [0; desk::SHARED_BYTES];
     let mut private = [0; desk::PRIVATE_BYTES];
@@ -32,12 +33,18 @@ fn main(rt: HostRuntime) -> io::Result<()> {
     let mut lines = [0; desk::LINES_BYTES];
     let mut index = [0; desk::INDEX_BYTES];
     let mut desk = desk::power_up();
-    if !console::has_argument(&rt, 1) {
-        obey_lines(
+    let mut source = input::first(&rt)?;
+    for _ in 0..u64::MAX {
+        let mut text = [0u8; input::TEXT_BYTES];
+        source = input::next(&rt, source, &mut text)?;
+        if source.over {
+            return Ok(());
+        }
+        desk = turn(
             &rt,
-            &mut rt.stdin(),
-            false,
             desk,
+            &source,
+            &text,
             &mut shared,
             &mut private,
             &mut screen,
@@ -50,77 +57,15 @@ fn main(rt: HostRuntime) -> io::Result<()> {
             &mut lines,
             &mut index,
         )?;
-        return Ok(());
-    }
-    for argument in 1..usize::MAX {
-        if !console::has_argument(&rt, argument) {
-            return Ok(());
-        }
-        if let Some(mut file) = input::opened(&rt, argument)? {
-            desk = obey_lines(
-                &rt,
-                &mut file,
-                true,
-                desk,
-                &mut shared,
-                &mut private,
-                &mut screen,
-                &mut attribute,
-                &mut glyphs,
-                &mut nvm,
-                &mut shadow,
-                &mut picture,
-                &mut line,
-                &mut lines,
-                &mut index,
-            )?;
-        }
     }
     Ok(())
 }
 
-// Takes lines to the end of the input, and shows those of a file ahead of their answers. A proved loop has to end, so
-// it counts to a number that no run reaches.
-fn obey_lines<R: Read>(
-    rt: &HostRuntime,
-    from: &mut R,
-    is_file: bool,
-    desk: Desk,
-    shared: &mut [u8; desk::SHARED_BYTES],
-    private: &mut [u8; desk::PRIVATE_BYTES],
-    screen: &mut [u8; desk::SCREEN_BYTES],
-    attribute: &mut [u8; desk::ATTRIBUTE_BYTES],
-    glyphs: &mut [u8; desk::GLYPHS_BYTES],
-    nvm: &mut [u8; desk::NVM_BYTES],
-    shadow: &mut [u8; desk::SHADOW_BYTES],
-    picture: &mut [u8; desk::PICTURE_BYTES],
-    line: &mut [u8; desk::LINE_BYTES],
-    lines: &mut [u8; desk::LINES_BYTES],
-    index: &mut [u8; desk::INDEX_BYTES],
-) -> io::Result<Desk> {
-    let mut desk = desk;
-    for _ in 0..u64::MAX {
-        let mut text = [0u8; input::TEXT_BYTES];
-        let typed = input::next_line(from, &mut text);
-        if typed.ended {
-            return Ok(desk);
-        }
-        let typed = input::line(typed, &text);
-        if is_file {
-            input::echo(rt, typed)?;
-        }
-        desk = turn(
-            rt, desk, typed, shared, private, screen, attribute, glyphs, nvm, shadow, picture,
-            line, lines, index,
-        )?;
-    }
-    Ok(desk)
-}
-
-// Obeys a line.
+// Obeys the line that was read last.
 fn turn(
     rt: &HostRuntime,
     desk: Desk,
+    source: &Source,
     text: &[u8],
     shared: &mut [u8; desk::SHARED_BYTES],
     private: &mut [u8; desk::PRIVATE_BYTES],
@@ -134,6 +79,7 @@ fn turn(
     lines: &mut [u8; desk::LINES_BYTES],
     index: &mut [u8; desk::INDEX_BYTES],
 ) -> io::Result<Desk> {
+    let text = input::line(rt, source, text)?;
     let command = forms::parse(text);
     let form = command.form;
     match form {

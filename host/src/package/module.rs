@@ -1,6 +1,6 @@
 //! A file of Rattle as a module of Rust: what the prover alone reads is taken away, remarks above items become doc
 //! comments, and what Rust has to be told beside it is added outside of the functions: the modules that the file names,
-//! that structs and enums are values that are copied, and which functions are parts of the loops that call them.
+//! which structs and enums are values that are copied, and which functions are parts of the loops that call them.
 use crate::rattle::code::{self, Token};
 use crate::rattle::kit;
 
@@ -13,10 +13,14 @@ pub fn module(text: &str, uses: &[String], in_loops: &[&str]) -> String {
         remark: Vec::new(),
         place: Place::Outside,
         begun: false,
+        copied: false,
     };
     let lines = code::lines(text);
     for (at, line) in lines.iter().enumerate() {
         if line.ghost {
+            if line.text.starts_with("#[derive(") {
+                writer.copied = line.text.contains("Copy");
+            }
             continue;
         }
         let narrow = needs_its_caller(&lines[at..]);
@@ -45,6 +49,8 @@ struct Writer<'a> {
     place: Place,
     /// The file's own remark is over.
     begun: bool,
+    /// The last derive says that the values of a type are copied.
+    copied: bool,
 }
 
 fn indent(line: &str) -> String {
@@ -126,7 +132,7 @@ impl<'a> Writer<'a> {
         if line.is_empty() && self.out.last().map_or(true, String::is_empty) {
             return;
         }
-        if is_value(line) {
+        if is_value(line) && self.copied {
             self.out
                 .push("#[derive(Clone, Copy, Debug, PartialEq, Eq)]".to_string());
         }
@@ -220,6 +226,11 @@ pub struct S {
     pub a: u8,
 }
 
+#[derive(Drop)]
+struct Open {
+    file: File,
+}
+
 // One more.
 #[tactic(
     auto,
@@ -257,6 +268,10 @@ const A: [u8; 2] = [
 pub struct S {
     /// The first.
     pub a: u8,
+}
+
+struct Open {
+    file: File,
 }
 
 /// One more.

@@ -112,8 +112,8 @@ fn uses(text: &str) -> String {
     }
 }
 
-/// The file as Rust: without what the kit alone reads; structs and enums are values that are copied; a `main` that
-/// takes nothing.
+/// The file as Rust: without what the kit alone reads; structs and enums are values that are copied, but for those that
+/// are only let go; a `main` that takes nothing.
 pub fn rust(text: &str) -> String {
     let mut code = uses(text);
     let mut at = 0;
@@ -125,9 +125,12 @@ pub fn rust(text: &str) -> String {
     if code.contains(kit::MAIN) {
         code = code.replacen(kit::MAIN, kit::RENAMED, 1) + kit::CALLER;
     }
+    let pairs = text.lines().zip(text.lines().skip(1));
+    let let_go = pairs.filter(|(derive, _)| *derive == "#[derive(Drop)]");
+    let let_go: Vec<&str> = let_go.map(|(_, line)| line).collect();
     let value = |line: &str| {
-        let line = line.strip_prefix("pub ").unwrap_or(line);
-        line.starts_with("struct ") || line.starts_with("enum ")
+        let item = line.strip_prefix("pub ").unwrap_or(line);
+        (item.starts_with("struct ") || item.starts_with("enum ")) && !let_go.contains(&line)
     };
     code.lines()
         .flat_map(|line| {
@@ -246,6 +249,12 @@ pub fn f(a: u8) -> u8
         assert_eq!(code.matches("derive").count(), 1);
         assert!(code.contains("pub fn f(a: u8) -> u8"));
         assert!(code.contains("    a <= b'+' // less\n}"));
+    }
+
+    #[test]
+    fn what_is_only_let_go_is_not_copied() {
+        let code = rust("#[derive(Drop)]\npub enum Input {\n    Named(File),\n}\n");
+        assert!(code.contains("pub enum Input {") && !code.contains("derive"));
     }
 
     #[test]
