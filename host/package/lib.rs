@@ -5,27 +5,32 @@
 //! the compiler that makes a program of it.
 //!
 //! A caller keeps the memories and lends them to each call. The machine goes in by value and comes back, and so do the
-//! viewers. A call that is refused says why by a number ([`lent`] has them) and changes nothing.
+//! viewers. A call that is refused says why, by a [`lent::Refusal`], and changes nothing.
 //!
 //! ```
-//! use rainbow::{lent, machine::Machine, marks, mending, picture};
+//! use rainbow::{lent, lent::Refusal, machine::Machine, marks, memories, mending, picture};
 //!
+//! # fn main() -> Result<(), Refusal> {
 //! let mut shared = vec![0; lent::SHARED_BYTES];
 //! let mut screen = [0xFF; lent::SCREEN_BYTES];
 //! let mut attribute = [0; lent::ATTRIBUTE_BYTES];
 //! let mut picture = [0; lent::PICTURE_BYTES];
 //! let machine = Machine::power_up();
 //!
-//! let drawn = picture::draw(machine, &screen, &attribute, &mut picture);
-//! assert_eq!((drawn.refusal, drawn.reads), (0, 75));
-//! assert_eq!((drawn.wild, drawn.wild_row), (true, 0)); // the link of row 0 has its top four bits set
+//! let drawing = picture::draw(machine, &screen, &attribute, &mut picture)?;
+//! assert_eq!(drawing.reads, 75);
+//! assert_eq!(drawing.wild, Some(0)); // the link of row 0 has its top four bits set
 //!
-//! let stored = mending::store_with_picture(
+//! let marks = mending::store_with_picture(
 //!     machine, &mut shared, &mut screen, &mut attribute, &mut picture, 0xEE000, b'H',
-//! );
-//! assert_eq!(stored.refusal, lent::ACCEPTED);
-//! assert!(marks::is_marked(stored.marks, 0)); // row 0 has a cell now
+//! )?;
+//! assert!(marks::is_marked(marks, 0)); // row 0 has a cell now
 //! assert_eq!(picture[4], b'H');
+//!
+//! let nowhere = memories::read_8088(machine, &shared, &screen, &attribute, 0xF0000);
+//! assert_eq!(nowhere, Err(Refusal::Address));
+//! # Ok(())
+//! # }
 //! ```
 //!
 //! | Call | What it does |
@@ -41,10 +46,10 @@
 //! | [`index::index_readers`], [`index::store_with_index`] | works out, for each place, the first row that reads it; the same store, which takes the first row from that index and keeps it |
 //! | [`viewers::Viewers::start`], [`ask`](viewers::Viewers::ask) | eight viewers, for each of whom marks wait; a viewer is handed its own |
 //! | [`viewers::store_for_viewers`], [`viewers::store_with_index_for_viewers`], [`viewers::draw_for_viewers`] | the same stores, which add their marks to those of all viewers; the same drawing, which sets all rows for all |
-//! | [`glyphs::part`], [`glyphs::refusal`] | the sixteen bytes of a code in the glyph table |
+//! | [`glyphs::part`] | the sixteen bytes of a code in the glyph table |
 //! | [`scan_line::draw`], [`scan_line::dots_of_line`] | the dots of a scan line |
 //! | [`whole_screen::list_lines`] | the row and the scan of each of the 240 lines that show, as the scroll latch says |
-//! | [`explaining::explain`], [`explaining::tell`] | why a cell shows what it shows; the same as numbers |
+//! | [`explaining::explain`], [`explaining::Explained`] | why a cell shows what it shows; the same as numbers |
 //! | [`listing::list_rows`] | the row lister's text, and what the drawing answers |
 //! | [`sentences::say`] | why a cell shows what it shows, in two sentences |
 //!

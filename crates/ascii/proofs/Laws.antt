@@ -1,43 +1,26 @@
--- Laws about text that is put into a buffer: nothing, a part after a part, and how long the parts are.
-use Prim.Native.Nat.{ℕ, suc, ◌+◌, ◌≤◌, ◌<◌}
-use mathlib.Core.Path.{◌≡◌, refl, sym, ◌∙◌, ap}
-use mathlib.Core.List.{List, [], ◌∷◌, ◌++◌}
-use native.Mathlib.Numerals.{add-one}
-use native.Mathlib.Omega.{arith}
-use lib.ListN.{length, take, get_or, set, length-append, length-set}
-use lib.Seq.{sets, take-suc, take_all}
-use Rattle.ascii.specs.Inner.{Put}
+-- Laws about text that is put after text.
+use Rattle.std.proofs.Common.{ℕ, ◌≡◌, ◌-◌, List, [], ◌++◌, ◌≤◌, length, drop, sym, arith}
+use native.Mathlib.Nat.{zero-add}
+use Rattle.std.proofs.lemmas.List.{take_all, append-nil, places, same_lists}
+use Rattle.std.proofs.lemmas.List.Edits.{sets, sets-eq}
+use Rattle.ascii.specs.Text.{with_words}
 
-sets-append : (a b l : List ℕ) (i : ℕ) → sets l i (a ++ b) ≡ sets (sets l i a) (i + length a) b
-sets-append [] b l i = ap (λ (n : ℕ). sets l n b) (omega arith)
-sets-append (x ∷ a) b l i =
-    sets-append a b (set l i x) (suc i) ∙ ap (λ (n : ℕ). sets (sets (set l i x) (suc i) a) n b) (omega arith)
+-- no words
+pub with_none : (room : ℕ) (text : List ℕ) → with_words room text [] ≡ text
+unfolding with_words
+with_none room text = rw (take_all {A = ℕ} (room - length text) [] (omega arith)) (append-nil text)
 
-pub put_none : {l : List ℕ} {at : ℕ} → Put l at [] l at
-put_none = record { text = refl; goes_on = omega arith; same = refl }
+-- words after words
+pub with_both :
+    (room : ℕ) (text a b : List ℕ) → with_words room (with_words room text a) b ≡ with_words room text (a ++ b)
+unfolding with_words
+with_both room text a b = same_lists _ _ (grind (arith, places)) (λ k d h. grind (arith, places))
 
--- one part put after another
-infixl 5 ◌then◌
-pub ◌then◌ : {l m n a b : List ℕ} {at to end : ℕ} → Put l at a m to → Put m to b n end → Put l at (a ++ b) n end
-◌then◌ {l} {a = a} {b} {at} p q =
-    record {
-      text = q.text ∙ rw (p.text, p.goes_on) (sym (sets-append a b l at));
-      goes_on = omega (arith, p.goes_on, q.goes_on, length-append a b);
-      same = q.same ∙ p.same;
-    }
+-- words that fit
+pub with_all : (room : ℕ) (words : List ℕ) → length words ≤ room → with_words room [] words ≡ words
+unfolding with_words
+with_all room words fits = take_all (room - 0) words (omega arith)
 
-pub put_one : (l : List ℕ) (at byte : ℕ) → Put l at (byte ∷ []) (set l at byte) (at + 1)
-put_one l at byte = record { text = refl; goes_on = refl; same = length-set l at byte }
-
--- one more of the words
-pub one_more :
-    {l m : List ℕ} {at : ℕ} (words : List ℕ) (k : ℕ) → Put l at (take k words) m (at + k) → k < length words
-    → Put l at (take (k + 1) words) (set m (at + k) (get_or words k 0)) (at + (k + 1))
-one_more {l} {m} {at} words k p more =
-    let to : at + k + 1 ≡ at + (k + 1) = omega arith in
-    rw (← to, add-one k, take-suc words k 0) (p then put_one m (at + k) (get_or words k 0))
-
-pub all_put :
-    {l m : List ℕ} {at : ℕ} (words : List ℕ) (k : ℕ) → Put l at (take k words) m (at + k) → length words ≤ k
-    → Put l at words m (at + k)
-all_put words k p all = rw (take_all k words all) at p
+-- a text that is copied to the front of a buffer
+pub copied : (buffer text : List ℕ) → length text ≤ length buffer → text ++ drop (length text) buffer ≡ sets buffer 0 text
+copied buffer text fits = rw (zero-add (length text)) at (sym (sets-eq text buffer 0 (omega arith)))

@@ -1,3 +1,3 @@
 pub mod Ascii
 pub mod Numbers
-pub mod Inner
+pub mod Text

@@ -1,88 +1,105 @@
-// Words and numbers as ASCII text. What puts text into a lent buffer says where the text goes on.
+// Words and numbers as ASCII text.
 #![tactic(auto)]
 
-ghost use Rattle.std.specs.Prelude.{◌+◌, ◌≤◌, ◌<◌, ◌≡◌, ◌∷◌, [], length};
-ghost use Rattle.ascii.specs.Ascii.{same};
+ghost use Rattle.std.specs.Prelude.{◌≤◌, ◌<◌, ◌≡◌, [], length};
+ghost use Rattle.std.proofs.lemmas.List.Edits.{sets};
 ghost use Rattle.ascii.specs.Numbers.{digit, reached, decimal, hex};
-ghost use Rattle.ascii.specs.Inner.{Put};
+ghost use Rattle.ascii.specs.Text.{with_words};
+
+use std::marker::Model;
+
+// Text of at most `N` bytes: of what goes beyond them, as much is kept as there is room for. It is seen as its bytes.
+#[derive(Drop)]
+pub struct Text<const N: usize> {
+    bytes: [u8; N],
+    end: usize,
+}
+
+impl<const N: usize> Model for Text<N> {
+    ghost use Rattle.std.specs.Prelude.{ℕ, ◌≤◌, List, take};
+
+    ghost Value = { List ℕ };
+
+    ghost view = { λ text. take text.end text.bytes };
+
+    ghost invariant = { λ text. text.end ≤ N };
+}
+
+impl<const N: usize> Text<N> {
+    pub fn new() -> Self
+        ensures { result ≡ [] }
+    {
+        Text {
+            bytes: [0; N],
+            end: 0,
+        }
+    }
+
+    // Puts bytes as they are.
+    pub fn put_bytes(&mut self, bytes: &[u8])
+        ensures { self.new ≡ with_words N self.old bytes.now }
+    {
+        let fits = bytes.len().min(N - self.end);
+        let end = self.end + fits;
+        let room = &mut self.bytes[..];
+        room[self.end..end].copy_from_slice(&bytes[..fits]);
+        self.end = end;
+    }
+
+    // Puts words as they are.
+    pub fn put(&mut self, words: &str)
+        ensures { self.new ≡ with_words N self.old words.now }
+    {
+        self.put_bytes(words.as_bytes());
+    }
+
+    // Puts a number's digit at a power of ten, if the number reaches it.
+    #[tactic(auto, using(crate::proofs::Laws::with_none), unfolding(crate::specs::Numbers::reached))]
+    fn put_reached(&mut self, n: u16, power: u16)
+        requires { 0 < power }
+        ensures { self.new ≡ with_words N self.old (reached n power) }
+    {
+        if n >= power {
+            self.put_bytes(&[digit((n / power % 10) as u8)]);
+        }
+    }
+
+    // Puts a number in decimal, with no zeros ahead of it.
+    #[tactic(auto, using(crate::proofs::Laws::with_both), unfolding(crate::specs::Numbers::decimal))]
+    pub fn put_decimal(&mut self, n: u16)
+        ensures { self.new ≡ with_words N self.old (decimal n) }
+    {
+        self.put_reached(n, 10000);
+        self.put_reached(n, 1000);
+        self.put_reached(n, 100);
+        self.put_reached(n, 10);
+        self.put_bytes(&[digit((n % 10) as u8)]);
+    }
+
+    // Puts a byte as two hexadecimal digits.
+    #[tactic(auto, unfolding(crate::specs::Numbers::hex))]
+    pub fn put_hex(&mut self, byte: u8)
+        ensures { self.new ≡ with_words N self.old (hex byte) }
+    {
+        self.put_bytes(&[digit(byte / 16), digit(byte % 16)]);
+    }
+
+    // Copies the text to the front of a buffer with as much room, and says how many bytes it is.
+    pub fn copy_to(&self, buffer: &mut [u8; N]) -> usize
+        ensures text { buffer.new ≡ sets buffer.old 0 self.now }
+        ensures bytes { result ≡ length self.now }
+        ensures within { result ≤ N }
+    {
+        let end = self.end;
+        buffer[..end].copy_from_slice(&self.bytes[..end]);
+        end
+    }
+}
 
 // The character of a digit, 0 to 9 or A to F.
+#[tactic(auto, unfolding(crate::specs::Numbers::digit))]
 pub fn digit(n: u8) -> u8
     ensures { result ≡ digit n }
 {
     if n < 10 { b'0' + n } else { b'A' + n % 10 }
-}
-
-// Whether two words are the same bytes.
-pub fn same(a: &[u8], b: &[u8]) -> bool
-    ensures { result ≡ same a.now b.now }
-{
-    if a.len() != b.len() {
-        return false;
-    }
-    let mut at = 0;
-    while at < a.len() {
-        if a[at] != b[at] {
-            return false;
-        }
-        at += 1;
-    }
-    true
-}
-
-// Puts one byte.
-pub fn put_byte(text: &mut [u8], at: usize, byte: u8) -> usize
-    requires { at < length text.old }
-    ensures { Put text.old at (byte ∷ []) text.new result }
-{
-    text[at] = byte;
-    at + 1
-}
-
-// Puts words as they are.
-pub fn put(text: &mut [u8], at: usize, words: &[u8]) -> usize
-    requires { at + length words.now ≤ length text.old }
-    ensures { Put text.old at words.now text.new result }
-{
-    let mut done = 0;
-    while done < words.len() {
-        text[at + done] = words[done];
-        done += 1;
-    }
-    at + done
-}
-
-// Puts a number's digit at a power of ten, if the number reaches it.
-fn put_reached(text: &mut [u8], at: usize, n: u16, power: u16) -> usize
-    requires { (at < length text.old) × (0 < power) }
-    ensures put { Put text.old at (reached n power) text.new result }
-    ensures upper_bound { result ≤ at + 1 }
-{
-    if n < power {
-        return at;
-    }
-    put_byte(text, at, digit((n / power % 10) as u8))
-}
-
-// Puts a number in decimal, with no zeros ahead of it.
-pub fn put_decimal(text: &mut [u8], at: usize, n: u16) -> usize
-    requires { at + 5 ≤ length text.old }
-    ensures put { Put text.old at (decimal n) text.new result }
-    ensures upper_bound { result ≤ at + 5 }
-{
-    let at = put_reached(text, at, n, 10000);
-    let at = put_reached(text, at, n, 1000);
-    let at = put_reached(text, at, n, 100);
-    let at = put_reached(text, at, n, 10);
-    put_byte(text, at, digit((n % 10) as u8))
-}
-
-// Puts a byte as two hexadecimal digits.
-pub fn put_hex(text: &mut [u8], at: usize, byte: u8) -> usize
-    requires { at + 2 ≤ length text.old }
-    ensures put { Put text.old at (hex byte) text.new result }
-    ensures upper_bound { result ≤ at + 2 }
-{
-    let at = put_byte(text, at, digit(byte / 16));
-    put_byte(text, at, digit(byte % 16))
 }

@@ -15,10 +15,8 @@ use Rattle.picture.specs.Wild.{first_wild_from}
 use Rattle.picture.specs.Draw.{lengths_picture}
 use Rattle.marks.specs.Marks.{bit_set, marks_to}
 use Rattle.readers.specs.Readers.{among}
-use Rattle.mending.specs.Mending.{same_bytes}
 use Rattle.mending.specs.Store.{lengths_with_picture}
-use Rattle.glyphs.specs.Glyphs.{glyph_byte}
-use Rattle.glyphs.specs.Scans.{scan_addresses, scan_address, glyph_scan}
+use Rattle.glyphs.specs.Scans.{scan_addresses}
 use Rattle.dots.specs.Attributes.{shade}
 use Rattle.dots.specs.Cell.{glyph_dots, twice, cell_dots}
 use Rattle.scan_line.specs.Line.{pair_dots, row_dots, shows_nothing, line_of}
@@ -82,11 +80,11 @@ unfolding within lengths_8088 seen_8088 refused_access lengths_z80 refusal_z80 i
 reset_out = refl
 
 mended_out : gives mends ≡ says mends
-unfolding byte_at capacity first_ff terminator link row_from next row_at screen_read attribute_read from cell_pairs fill_pairs record_of in_order record_in lengths_picture within lengths_8088 seen_8088 refused_access lengths_with_picture among first_that same_bytes bit_set marks_to drawn_from rows_of memory zeros marked_of marked_from marked stored_at mended_row mends
+unfolding byte_at capacity first_ff terminator link row_from next row_at screen_read attribute_read from cell_pairs fill_pairs record_of in_order record_in lengths_picture within lengths_8088 seen_8088 refused_access lengths_with_picture among first_that bit_set marks_to drawn_from rows_of memory zeros marked_of marked_from marked stored_at mended_row mends
 mended_out = refl
 
 watched_out : gives watched ≡ says watched
-unfolding byte_at capacity first_ff terminator link row_from next row_at reads reads_to screen_read attribute_read from cell_pairs fill_pairs record_of in_order record_in lengths_picture within lengths_8088 seen_8088 refused_access lengths_with_picture among first_that same_bytes bit_set marks_to drawn_from memory zeros marked_of marked_from marked told_to asked_by stored_for drawn_for watched
+unfolding byte_at capacity first_ff terminator link row_from next row_at reads reads_to screen_read attribute_read from cell_pairs fill_pairs record_of in_order record_in lengths_picture within lengths_8088 seen_8088 refused_access lengths_with_picture among first_that bit_set marks_to drawn_from memory zeros marked_of marked_from marked told_to asked_by stored_for drawn_for watched
 watched_out = refl
 
 indexed_out : gives indexes ≡ says indexes
@@ -94,7 +92,7 @@ unfolding byte_at capacity first_ff terminator link row_from next row_at screen_
 indexed_out = refl
 
 shown_out : gives dots ≡ says dots
-unfolding capacity in_order record_in glyph_byte scan_addresses scan_address glyph_scan shade glyph_dots twice cell_dots pair_dots row_dots shows_nothing line_of lengths_line on_tube showing row_of_kind lit_dots every_byte of_character numbered digits80 digits132 bits lit_by_bits under_digits printed dots
+unfolding capacity in_order record_in scan_addresses shade glyph_dots twice cell_dots pair_dots row_dots shows_nothing line_of lengths_line on_tube showing row_of_kind lit_dots every_byte of_character numbered digits80 digits132 bits lit_by_bits under_digits printed dots
 shown_out = refl
 
 scrolled_out : gives scrolls ≡ says scrolls

@@ -1,28 +1,26 @@
 -- 02, ticket 6: why a cell says what it says, in the ticket's words; and what the program `why` prints of it, told by
 -- the whole text.
-use Rattle.std.specs.Prelude.{ℕ, List, [], ◌∷◌, ◌++◌, take, replicate, set}
+use Rattle.std.specs.Prelude.{ℕ, List, [], ◌∷◌, ◌++◌, take, replicate, set, Option, Some, None, Result, Ok, Err}
 use Rattle.lent.specs.Lengths.{attribute_bytes}
 use Rattle.machine.specs.Power.{power_up}
 use Rattle.machine.specs.declared.Machine.{Machine}
 use Rattle.explaining.specs.Call.{explain}
-use Rattle.explaining.specs.declared.Led.{Led}
-use Rattle.explaining.specs.declared.Led.TheVariants.{Row0, Link as ByLink}
 use Rattle.explaining.specs.declared.Why.{Why}
-use Rattle.explaining.specs.declared.Why.TheVariants.{Refused as RefusedBy, Cell as ACell, Fill as AFill, Past as IsPast, Dark as IsDark}
+use Rattle.explaining.specs.declared.Why.TheVariants.{Cell as ACell, Fill as AFill, Past as IsPast, Dark as IsDark}
 use Rattle.sentences.specs.Sentences.{text_bytes, say}
 use Rattle.cases.specs.Ports.{written_all}
 use Rattle.cases.specs.Said.{Said, Refused, Prints, Cell, Fill, Past, Dark, Link, IsRow0}
 
-abbrev pub led_by : Led → Said
-led_by Row0 = IsRow0
-led_by (ByLink place) = Link place
+abbrev pub led_by : Option ℕ → Said
+led_by None = IsRow0
+led_by (Some place) = Link place
 
-abbrev pub in_words : Why → List Said
-in_words (RefusedBy number) = Refused number ∷ []
-in_words (ACell place kind led) = Cell place kind ∷ led_by led ∷ []
-in_words (AFill place led) = Fill place ∷ led_by led ∷ []
-in_words (IsPast led) = Past ∷ led_by led ∷ []
-in_words (IsDark tore) = Dark tore ∷ []
+abbrev pub in_words : Result Why ℕ → List Said
+in_words (Ok (ACell place kind led)) = Cell place kind ∷ led_by led ∷ []
+in_words (Ok (AFill place led)) = Fill place ∷ led_by led ∷ []
+in_words (Ok (IsPast led)) = Past ∷ led_by led ∷ []
+in_words (Ok (IsDark tore)) = Dark tore ∷ []
+in_words (Err number) = Refused number ∷ []
 
 unfoldable pub why_at : Machine → (screen attribute : List ℕ) → (row column : ℕ) → List Said
 why_at m screen attribute row column = in_words (explain m screen attribute row column)

@@ -1,21 +1,17 @@
 -- Rows are what they read: the statements of specs/Alike.antt.
-use Prim.Native.Nat.{ℕ, zero, suc, ◌+◌, ◌*◌, ◌%◌, ◌≤◌, ◌<◌}
+use Prim.Native.Nat.{ℕ, zero, suc, ◌+◌, ◌%◌, ◌≤◌, ◌<◌}
 use mathlib.Core.Path.{◌≡◌, refl, sym, ap, ◌∙◌}
 use mathlib.Core.List.{List, ◌++◌}
-use mathlib.Core.Bool.{Bool, true, false, cond}
 use native.Mathlib.Nat.{mod-mod, add-zero, add_assoc}
 use native.Mathlib.Omega.{arith}
+use Rattle.std.proofs.lemmas.Bool.Decides.{nat_tests}
 use lib.ListN.{get_or}
-use lib.Dec.{eqb}
 use Rattle.chain.specs.Chain.{Chain, places, byte_at, capacity, first_ff, terminator, ended, link, row_from, row_at}
 use Rattle.chain.specs.Reading.{from, screen_read, attribute_read}
 use Rattle.chain.specs.Inner.{row_ahead, ahead_after, ahead_of}
 use Rattle.chain.specs.Alike.{bytes_at, read_ahead_of_high, low_four, ReadAlike, RowIsWhatItReads, RowsAreWhatTheyRead}
 use Rattle.chain.specs.declared.Head.{Head}
-use Rattle.chain.specs.declared.Terminator.{Terminator}
-use Rattle.chain.specs.declared.Terminator.TheVariants.{After, Missing}
-use Rattle.chain.specs.declared.Ahead.{Ahead}
-use Rattle.chain.specs.declared.Ahead.TheVariants.{Row as RowAhead, Dark as DarkAhead}
+use Rattle.std.specs.Prelude.{Option, Some, None}
 use Rattle.chain.proofs.Laws.{ahead_leads}
 
 -- a place and the place modulo 4,096 are one
@@ -30,9 +26,7 @@ module _ (s t : List ℕ) where
       → (i : ℕ) → i < n → byte_at s (place + i) ≡ byte_at t (place + i)
   unfolding from
   each_alike place zero e i h = absurd (omega arith)
-  each_alike place (suc n) e zero h =
-      let first : byte_at s (place % places) ≡ byte_at t (place % places) = cc in
-      rw (add-zero place) (sym (same_place s place) ∙ first ∙ same_place t place)
+  each_alike place (suc n) e zero h = grind (arith, same_place s place, same_place t place)
   each_alike place (suc n) e (suc i) h =
       let later : bytes_at s (from (place + 1) n) ≡ bytes_at t (from (place + 1) n) = cc in
       let at : place + suc i ≡ place + 1 + i = omega arith in
@@ -44,10 +38,7 @@ module _ (s t : List ℕ) where
       → bytes_at s (from place n) ≡ bytes_at t (from place n)
   unfolding from
   shorter_alike place zero e = refl
-  shorter_alike place (suc n) e =
-      let first : byte_at s (place % places) ≡ byte_at t (place % places) = cc in
-      let later : bytes_at s (from (place + 1) (suc n)) ≡ bytes_at t (from (place + 1) (suc n)) = cc in
-      rw (first, shorter_alike (place + 1) n later)
+  shorter_alike place (suc n) e = grind (arith, shorter_alike (place + 1) n)
 
   -- two stretches, one after the other
   pub both_alike :
@@ -55,39 +46,18 @@ module _ (s t : List ℕ) where
       → (bytes_at s (from place n) ≡ bytes_at t (from place n)) × (bytes_at s rest ≡ bytes_at t rest)
   unfolding from
   both_alike place zero rest e = (refl, e)
-  both_alike place (suc n) rest e =
-      let later : bytes_at s (from (place + 1) n ++ rest) ≡ bytes_at t (from (place + 1) n ++ rest) = cc in
-      let parts = both_alike (place + 1) n rest later in
-      let first : byte_at s (place % places) ≡ byte_at t (place % places) = cc in
-      (rw (first, parts.0), parts.1)
+  both_alike place (suc n) rest e = grind (arith, both_alike (place + 1) n rest)
 
 -- how far a search has looked that ended so, at most to `end`
-abbrev looked : ℕ → Terminator → ℕ
-looked end (After n) = n + 1
-looked end Missing = end
+abbrev pub looked : ℕ → Option ℕ → ℕ
+looked end (Some n) = n + 1
+looked end None = end
 
 module _ (s : List ℕ) (start : ℕ) where
-  -- a search that goes on looks as far as what is left of it
-  looked_on :
-      (cells bytes : ℕ) (b : Bool) → eqb (byte_at s (start + cells)) 0xFF ≡ b
-      → looked (cells + suc bytes) (first_ff s start cells (suc bytes))
-      ≡ cond b (cells + 1) (looked (cells + 1 + bytes) (first_ff s start (cells + 1) bytes))
-  unfolding first_ff
-  looked_on cells bytes true h = rw h
-  looked_on cells bytes false h =
-      rw h (ap (λ (end : ℕ). looked end (first_ff s start (cells + 1) bytes)) (omega arith))
-
   looked_from : (cells bytes : ℕ) → cells ≤ looked (cells + bytes) (first_ff s start cells bytes)
   unfolding first_ff
   looked_from cells zero = omega arith
-  looked_from cells (suc bytes) = go (eqb (byte_at s (start + cells)) 0xFF) refl (looked_from (cells + 1) bytes)
-    where
-      go :
-          (b : Bool) → eqb (byte_at s (start + cells)) 0xFF ≡ b
-          → cells + 1 ≤ looked (cells + 1 + bytes) (first_ff s start (cells + 1) bytes)
-          → cells ≤ looked (cells + suc bytes) (first_ff s start cells (suc bytes))
-      go true h later = omega (arith, looked_on cells bytes true h)
-      go false h later = omega (arith, looked_on cells bytes false h)
+  looked_from cells (suc bytes) = grind (arith, nat_tests, looked_from (cells + 1) bytes)
 
   -- a search in another memory ends alike where all that was looked at is alike
   search_alike :
@@ -97,23 +67,7 @@ module _ (s : List ℕ) (start : ℕ) where
   unfolding first_ff
   search_alike t cells zero alike = refl
   search_alike t cells (suc bytes) alike =
-      go (eqb (byte_at s (start + cells)) 0xFF) refl (search_alike t (cells + 1) bytes)
-    where
-      Ends : ℕ → ℕ → Type 0
-      Ends k n = first_ff t start k n ≡ first_ff s start k n
-
-      go :
-          (b : Bool) → eqb (byte_at s (start + cells)) 0xFF ≡ b
-          → (((i : ℕ) → i < looked (cells + 1 + bytes) (first_ff s start (cells + 1) bytes) → byte_at s (start + i) ≡ byte_at t (start + i))
-          → Ends (cells + 1) bytes)
-          → Ends cells (suc bytes)
-      go true h later =
-          let here = alike cells (omega (arith, looked_on cells bytes true h)) in
-          rw (← here, h)
-      go false h later =
-          let on = looked_on cells bytes false h in
-          let here = alike cells (omega (arith, on, looked_from (cells + 1) bytes)) in
-          rw (← here, h) (later (λ i g. alike i (omega (arith, on))))
+      grind (arith, nat_tests, looked_from (cells + 1) bytes, search_alike t (cells + 1) bytes, alike cells)
 
 pub link_alike :
     (c d : Chain) (place : ℕ) → byte_at c.screen (place + 1) ≡ byte_at d.screen (place + 1)
@@ -121,15 +75,12 @@ pub link_alike :
     → byte_at c.attribute (place + 1) ≡ byte_at d.attribute (place + 1)
     → link d.screen d.attribute place ≡ link c.screen c.attribute place
 unfolding link
-link_alike c d place low high kind =
-    let start : (byte_at d.screen (place + 1) + 256 * byte_at d.screen (place + 2)) % places
-    ≡ (byte_at c.screen (place + 1) + 256 * byte_at c.screen (place + 2)) % places = omega arith in
-    rw (start, kind)
+link_alike c d place low high kind = grind arith
 
 module _ (c d : Chain) (head : Head) where
   -- a row ends alike where the bytes that its search looked at are alike
   terminator_alike :
-      (t : Terminator) → terminator c head ≡ t → c.columns ≡ d.columns
+      (t : Option ℕ) → terminator c head ≡ t → c.columns ≡ d.columns
       → ((i : ℕ) → i < looked (capacity c.columns head.kind + 1) t
       → byte_at c.screen (head.start + i) ≡ byte_at d.screen (head.start + i))
       → terminator d head ≡ t
@@ -140,24 +91,24 @@ module _ (c d : Chain) (head : Head) where
       rw (← same) (search_alike c.screen head.start d.screen 0 bytes (rw (end, e) alike) ∙ e)
 
   row_alike :
-      (t : Terminator) → terminator c head ≡ t → ReadAlike c d (ended head t)
+      (t : Option ℕ) → terminator c head ≡ t → ReadAlike c d (ended head t)
       → (ended head (terminator d head) ≡ ended head t) × (ahead_after d (ended head t) ≡ ahead_after c (ended head t))
   unfolding read_ahead_of_high low_four screen_read attribute_read
-  row_alike (After n) e alike =
+  row_alike (Some n) e alike =
       let start = head.start in
       let screen = each_alike c.screen d.screen start (n + 2) alike.screen in
       let beside = (both_alike c.attribute d.attribute start n (from (start + n + 1) 1) alike.attribute).1 in
       let kind = each_alike c.attribute d.attribute (start + n + 1) 1 beside 0 (omega arith) in (
-        ap (ended head) (terminator_alike (After n) e alike.columns (λ i h. screen i (omega arith))),
-        ap RowAhead
+        ap (ended head) (terminator_alike (Some n) e alike.columns (λ i h. screen i (omega arith))),
+        ap Some
             (link_alike c d (start + n)
             (rw (add_assoc start n 1) (screen (n + 1) (omega arith)))
             alike.high
             (rw add-zero at kind)),
       )
-  row_alike Missing e alike = (
+  row_alike None e alike = (
     ap (ended head)
-        (terminator_alike Missing e alike.columns (each_alike c.screen d.screen head.start _ alike.screen)),
+        (terminator_alike None e alike.columns (each_alike c.screen d.screen head.start _ alike.screen)),
     refl,
   )
 
@@ -168,10 +119,10 @@ row_is_what_it_reads c d head = row_alike c d head (terminator c head) refl
 module _ (c d : Chain) where
   -- what lies ahead leads to the same in both where the row reads alike
   ahead_alike :
-      (ahead : Ahead) → ReadAlike c d (row_ahead c ahead)
+      (ahead : Option Head) → ReadAlike c d (row_ahead c ahead)
       → (row_ahead d ahead ≡ row_ahead c ahead) × (ahead_after d (row_ahead c ahead) ≡ ahead_after c (row_ahead c ahead))
-  ahead_alike (RowAhead head) alike = row_is_what_it_reads c d head alike
-  ahead_alike DarkAhead alike = (refl, refl)
+  ahead_alike (Some head) alike = row_is_what_it_reads c d head alike
+  ahead_alike None alike = (refl, refl)
 
   -- a row that the walk comes to alike in both
   row_at_alike :

@@ -4,11 +4,9 @@ use mathlib.Core.Path.{◌≡◌, refl, ap, subst}
 use native.Mathlib.Nat.{suc-mul, mul-le-mul_left}
 use native.Mathlib.Omega.{arith}
 use lib.ListN.{length}
-use Rattle.chain.specs.Chain.{Chain, Row, Whole, Torn, Dark, capacity, terminator, ended, first, row_from, next, rows, row_at}
+use Rattle.chain.specs.Chain.{Chain, Row, Whole, Torn, Dark, capacity, terminator, first, row_from, next, rows, row_at}
 use Rattle.chain.specs.Reading.{reads, reads_to, walk_reads, reads_at_132, from, screen_read, ReadsAsCounted, ReadsAtMost}
 use Rattle.chain.specs.declared.Head.{Head}
-use Rattle.chain.specs.declared.Terminator.{Terminator}
-use Rattle.chain.specs.declared.Terminator.TheVariants.{After, Missing}
 use Rattle.chain.proofs.Laws.{found_within, capacity_within}
 
 from_length : (place bytes : ℕ) → length (from place bytes) ≡ bytes
@@ -25,18 +23,13 @@ reads_as_counted c Dark = refl
 module _ (c : Chain) where
   reads_from : (head : Head) → reads c (row_from c head) ≤ c.columns + 3
   unfolding reads row_from terminator
-  reads_from head = go (terminator c head) refl
-    where
-      go : (t : Terminator) → terminator c head ≡ t → reads c (ended head t) ≤ c.columns + 3
-      go (After cells) e =
-          omega (arith, capacity_within c.columns head.kind, found_within c.screen head.start 0 _ e)
-      go Missing e = omega (arith, capacity_within c.columns head.kind)
+  reads_from head =
+      let most = capacity c.columns head.kind in
+      grind (arith, capacity_within c.columns head.kind, found_within c.screen head.start 0 (most + 1))
 
   reads-next : (row : Row) → reads c (next c row) ≤ c.columns + 3
   unfolding next reads
-  reads-next (Whole head cells) = reads_from _
-  reads-next (Torn head) = omega arith
-  reads-next Dark = omega arith
+  reads-next row = grind (arith, reads_from)
 
   pub reads_at : (row : ℕ) → reads c (row_at c row) ≤ c.columns + 3
   unfolding row_at

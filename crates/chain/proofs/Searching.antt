@@ -1,124 +1,93 @@
--- The search that draws nothing: through a part of memory, by one byte and by many, and then through two parts.
-use Prim.Native.Nat.{ℕ, zero, suc, ◌+◌, ◌-◌, ◌%◌, ◌≤◌, ◌<◌, min}
-use mathlib.Core.Path.{◌≡◌, refl, sym, ap, ◌∙◌}
-use mathlib.Core.List.{List, [], ◌∷◌}
-use mathlib.Core.Bool.{Bool, true, false, ◌||◌, true≢false, or-false, or_assoc}
-use native.Mathlib.Nat.{add-zero, zero-add, suc-add}
-use native.Mathlib.Omega.{arith}
-use native.Mathlib.Numerals.{add-one}
-use lib.ListN.{length, get_or, take, drop, length-drop, drop_of_length-le}
-use lib.Seq.{get_or-take, get_or-drop, drop-drop, drop-cons}
-use lib.Dec.{eqb}
-use borrow.Author.Tests.{eq-eqb, ne_eqb}
+-- The search for a terminator: bytes that have none are passed, and then what is left of the search gives the answer.
+use Rattle.std.proofs.Common.{◌≡◌, ◌≤◌, ◌+◌, ◌-◌, ℕ, zero, suc, List, [], ◌∷◌, ◌++◌, Bool, false, ◌||◌, Option, Some, None, add-zero, zero-add, length, take, drop, option_map, position, ◌%◌, ◌<◌, min, get_or, add-zero, suc-add, length-drop, length-append, refl, sym, ap, ◌∙◌, arith}
+use Rattle.std.proofs.Math.Seq.{take-add, drop-append_seam, take-append_seam, drop-drop, take_all, get_or-take, get_or-drop, length-take-le}
+use Rattle.std.proofs.lemmas.Bool.{or_parts}
+use Rattle.std.proofs.lemmas.List.Folds.{list_any-append}
+use Rattle.std.specs.List.{list_any, position_from}
+use Rattle.std.proofs.lemmas.Iterator.Adapters.{position_from-zero}
+use Rattle.std.specs.Option.{option_or}
+use Rattle.std.proofs.lemmas.Bool.Decides.{nat_tests}
 use borrow.Rule.Slice.PartMut.{mid_of, mid_len}
 use Rattle.chain.specs.Chain.{places, byte_at, first_ff}
-use Rattle.chain.specs.Inner.{has_ff, ahead_of_ff, Sought}
-use Rattle.chain.specs.declared.Terminator.TheVariants.{After, Missing}
+use Rattle.chain.specs.Inner.{is_ff}
 use Rattle.chain.proofs.Laws.{straight}
 
+-- of a test of two that fails both fail
 pub neither : (a b : Bool) → (a || b) ≡ false → (a ≡ false) × (b ≡ false)
-neither true b h = absurd (true≢false h)
-neither false b h = (refl, h)
+neither = or_parts
 
--- a byte more that is looked at
-pub has_more :
-    (l : List ℕ) (at : ℕ) → at < length l → has_ff (take (at + 1) l) ≡ (has_ff (take at l) || eqb (get_or l at 0) 0xFF)
-unfolding has_ff
-has_more [] at under = absurd (omega arith)
-has_more (x ∷ l) zero under = or-false (eqb x 0xFF)
-has_more (x ∷ l) (suc at) under =
-    let two : suc at + 1 ≡ suc (at + 1) = omega arith in
-    rw (two, has_more l at (omega arith), or_assoc (eqb x 0xFF) (has_ff (take at l)) (eqb (get_or l at 0) 0xFF))
+-- so many bytes are passed, none of which is FF, and the rest are still to come
+pub record Passed (bytes rest : List ℕ) (passed : ℕ) : Type 0 where
+  pub within : passed ≤ length bytes
+  pub none : list_any is_ff (take passed bytes) ≡ false
+  pub to_come : rest ≡ drop passed bytes
+
+pub passed_more :
+    {bytes rest more : List ℕ} {n : ℕ} (together : List ℕ) → Passed bytes rest n → rest ≡ together ++ more
+    → list_any is_ff together ≡ false → Passed bytes more (n + length together)
+passed_more {bytes} {rest} {more} {n} together p cut none =
+    let left : drop n bytes ≡ together ++ more = sym p.to_come ∙ cut in
+    record {
+      within = omega (arith, p.within, length-drop n bytes, ap length left, length-append together more);
+      none =
+          rw (take-add n (length together) bytes, left, take-append_seam together more, list_any-append is_ff (take n bytes) together, p.none, none);
+      to_come = sym (drop-append_seam together more) ∙ sym (ap (drop (length together)) left) ∙ drop-drop (length together) n bytes;
+    }
+
+-- a search that begins at a later place finds what it would find, and later
+later_from :
+    (l : List ℕ) (at k sum : ℕ) → sum ≡ at + k
+    → position_from is_ff sum l ≡ option_map (λ n. at + n) (position_from is_ff k l)
+later_from [] at k sum e = refl
+later_from (x ∷ l) at k sum e = grind (arith, nat_tests, later_from l at (k + 1) (sum + 1) (omega arith))
+
+position_later : (l : List ℕ) (at : ℕ) → position_from is_ff at l ≡ option_map (λ k. at + k) (position is_ff l)
+position_later l at = rw (position_from-zero is_ff l) (later_from l at 0 at (omega arith))
 
 -- bytes that have no FF are passed
-passed : (l : List ℕ) (n : ℕ) → n ≤ length l → has_ff (take n l) ≡ false → ahead_of_ff l ≡ n + ahead_of_ff (drop n l)
-unfolding has_ff ahead_of_ff
-passed l zero within none = sym (zero-add (ahead_of_ff l))
-passed [] (suc n) within none = absurd (omega arith)
-passed (x ∷ l) (suc n) within none =
-    let both = neither (eqb x 0xFF) (has_ff (take n l)) none in
-    rw (both.0, passed l n (omega arith) both.1) (sym (suc-add n (ahead_of_ff (drop n l))))
+position_passed :
+    (l : List ℕ) (n at : ℕ) → n ≤ length l → list_any is_ff (take n l) ≡ false
+    → position_from is_ff at l ≡ position_from is_ff (at + n) (drop n l)
+position_passed l zero at within none = grind arith
+position_passed [] (suc n) at within none = absurd (omega arith)
+position_passed (x ∷ l) (suc n) at within none = grind (arith, nat_tests, position_passed l n (at + 1))
 
-pub none_sought : (l : List ℕ) → Sought l 0
-none_sought l = record { within = omega arith; search_left = sym (zero-add (ahead_of_ff l)) }
+-- the bytes from one on
+abbrev rest_of : (l : List ℕ) → (at : ℕ) → List ℕ
+rest_of l at = take (length l - at) (drop at l)
 
-module _ {l : List ℕ} {at : ℕ} (s : Sought l at) where
-  -- some bytes at once, none of which is FF
-  pub sought_many : (n : ℕ) → at + n ≤ length l → has_ff (mid_of at (at + n - at) l) ≡ false → Sought l (at + n)
-  sought_many n room none =
-      let n_bytes : at + n - at ≡ n = omega arith in
-      let rest = passed (drop at l) n (omega (arith, length-drop at l)) (rw n_bytes at none) in
-      let more : at + (n + ahead_of_ff (drop n (drop at l))) ≡ at + n + ahead_of_ff (drop n (drop at l)) = omega arith in
-      record {
-        within = room;
-        search_left =
-            s.search_left ∙ ap (λ (k : ℕ). at + k) rest ∙ more
-            ∙ ap (λ (bytes : List ℕ). at + n + ahead_of_ff bytes) (drop-drop n at l);
-      }
+-- two stretches are passed, one after the other
+pub both_passed :
+    (l : List ℕ) (m n : ℕ) {found : Option ℕ} → m ≤ length l → list_any is_ff (take m l) ≡ false
+    → n ≤ length (rest_of l m) → list_any is_ff (take n (rest_of l m)) ≡ false → found ≡ position is_ff (rest_of l (m + n))
+    → option_map (λ k. m + n + k) found ≡ position is_ff l
+both_passed l m n within none more none_more is =
+    let rest : (at : ℕ) → rest_of l at ≡ drop at l = λ at. take_all (length l - at) (drop at l) (omega (arith, length-drop at l)) in
+    let first = position_passed l m 0 within none in
+    let second = position_passed (drop m l) n m (rw rest at more) (rw rest at none_more) in
+    let third = position_later (drop (m + n) l) (m + n) in
+    rw (is, rest, ← third, ← drop-drop n m l, position_from-zero is_ff l, first, zero-add m, second)
 
-  pub sought_all : length l ≤ at → at ≡ ahead_of_ff l
-  unfolding ahead_of_ff
-  sought_all all = sym (s.search_left ∙ rw (drop_of_length-le l all) (add-zero at))
-
-  -- one byte
-  module _ (more : at < length l) where
-    pub sought_on : (get_or l at 0 ≡ 0xFF → ⊥) → Sought l (at + 1)
-    unfolding ahead_of_ff
-    sought_on other =
-        let here : ahead_of_ff (drop at l) ≡ suc (ahead_of_ff (drop (suc at) l)) =
-        rw (drop-cons l at 0 more, ne_eqb (get_or l at 0) 0xFF other) refl in
-        let one : at + suc (ahead_of_ff (drop (suc at) l)) ≡ suc at + ahead_of_ff (drop (suc at) l) = omega arith in
-        record {
-          within = omega arith;
-          search_left = rw (add-one at) (s.search_left ∙ ap (λ (k : ℕ). at + k) here ∙ one);
-        }
-
-    pub sought_found : get_or l at 0 ≡ 0xFF → at ≡ ahead_of_ff l
-    unfolding ahead_of_ff
-    sought_found is =
-        let here : ahead_of_ff (drop at l) ≡ 0 = rw (drop-cons l at 0 more, eq-eqb (get_or l at 0) 0xFF is) refl in
-        sym (s.search_left ∙ ap (λ (k : ℕ). at + k) here ∙ add-zero at)
+or_none : (found : Option ℕ) → option_or found None ≡ found
+or_none (Some cells) = refl
+or_none None = refl
 
 -- a part of memory, from so many cells after a start on
 abbrev pub Part : (screen : List ℕ) → (start cells : ℕ) → List ℕ → Type 0
 Part screen start cells l = (k : ℕ) → k < length l → get_or l k 0 ≡ byte_at screen (start + (cells + k))
 
 -- a search through it either ends there, or goes on after it
-abbrev Through : (screen : List ℕ) → (start cells more : ℕ) → List ℕ → Type 0
-Through screen start cells more l =
-    (ahead_of_ff l < length l → first_ff screen start cells (length l + more) ≡ After (cells + ahead_of_ff l))
-    × (length l ≤ ahead_of_ff l → first_ff screen start cells (length l + more) ≡ first_ff screen start (cells + length l) more)
-
-pub through_a_part :
-    (screen : List ℕ) (start cells more : ℕ) (l : List ℕ) → Part screen start cells l → Through screen start cells more l
-unfolding first_ff ahead_of_ff
-through_a_part screen start cells more [] is =
-    (λ h. absurd (omega arith), λ h. rw (zero-add more, add-zero cells) refl)
+through_a_part :
+    (screen : List ℕ) (start cells more : ℕ) (l : List ℕ) → Part screen start cells l
+    → first_ff screen start cells (length l + more)
+    ≡ option_or (position_from is_ff cells l) (first_ff screen start (cells + length l) more)
+unfolding first_ff
+through_a_part screen start cells more [] is = rw (zero-add more, add-zero cells) refl
 through_a_part screen start cells more (x ∷ l) is =
-    go (eqb x 0xFF) refl (through_a_part screen start (cells + 1) more l later)
-  where
-    on : (k : ℕ) → cells + suc k ≡ cells + 1 + k
-    on k = omega arith
-
-    later : Part screen start (cells + 1) l
-    later k h = is (suc k) (omega arith) ∙ ap (λ (n : ℕ). byte_at screen (start + n)) (on k)
-
-    here : x ≡ byte_at screen (start + cells)
-    here = is 0 (omega arith) ∙ ap (λ (n : ℕ). byte_at screen (start + n)) (add-zero cells)
-
-    bytes : suc (length l) + more ≡ suc (length l + more)
-    bytes = suc-add (length l) more
-
-    go : (b : Bool) → eqb x 0xFF ≡ b → Through screen start (cells + 1) more l → Through screen start cells more (x ∷ l)
-    go true e rest = (
-      λ h. rw (bytes, ← here, e) (ap After (sym (add-zero cells))),
-      λ h. absurd (let all = rw e at h in omega arith),
-    )
-    go false e rest = (
-      λ h. rw (bytes, ← here, e) (rest.0 (let more = rw e at h in omega arith) ∙ ap After (sym (on (ahead_of_ff l)))),
-      λ h.
-          rw (bytes, ← here, e, on (length l)) (rest.1 (let all = rw e at h in omega arith)),
-    )
+    let later : Part screen start (cells + 1) l = λ k h. grind (arith, is (suc k)) in
+    let here : x ≡ byte_at screen (start + cells) = grind (arith, is 0) in
+    rw (suc-add (length l) more)
+    (grind (arith, nat_tests, through_a_part screen start (cells + 1) more l later))
 
 -- the two parts of so many bytes of a row: `n` up to the end of memory, and the others from place 0 on
 module _
@@ -132,13 +101,13 @@ module _
   one = mid_of start (start + n - start) screen
 
   abbrev pub two : List ℕ
-  two = mid_of 0 (bytes - n - 0) screen
+  two = take (bytes - n) screen
 
   pub one_long : length one ≡ n
   one_long = mid_len start (start + n) screen (omega (arith, long, straight_on)) ∙ omega arith
 
   pub two_long : length two ≡ bytes - n
-  two_long = mid_len 0 (bytes - n) screen (omega (arith, long)) ∙ omega arith
+  two_long = length-take-le (bytes - n) screen (omega (arith, long))
 
   pub one_is : Part screen start 0 one
   one_is k h =
@@ -152,34 +121,16 @@ module _
   two_is k h =
       let less : k < bytes - n = omega (arith, two_long) in
       let round : k ≡ (start + (n + k)) % places = omega (arith, straight_on) in
-      get_or-take (bytes - n - 0) screen k 0 (omega arith) ∙ ap (λ (p : ℕ). get_or screen p 0) round
+      get_or-take (bytes - n) screen k 0 (omega arith) ∙ ap (λ (p : ℕ). get_or screen p 0) round
 
-  all : bytes ≡ length one + (bytes - n)
-  all = omega (arith, one_long, straight_on)
-
-  rest : bytes - n ≡ length two + 0
-  rest = omega (arith, two_long)
-
-  module _ {cells : ℕ} (found : cells ≡ ahead_of_ff one) where
-    pub ends_straight : cells < n → After cells ≡ first_ff screen start 0 bytes
-    ends_straight h =
-        let ended = (through_a_part screen start 0 (bytes - n) one one_is).0 (omega (arith, found, one_long)) in
-        sym (rw all (ended ∙ ap After (zero-add (ahead_of_ff one) ∙ sym found)))
-
-    module _ (passed_one : n ≤ cells) {more : ℕ} (found_more : more ≡ ahead_of_ff two) where
-      goes_on : first_ff screen start 0 bytes ≡ first_ff screen start n (length two + 0)
-      goes_on =
-          let went = (through_a_part screen start 0 (bytes - n) one one_is).1 (omega (arith, found, one_long)) in
-          ap (first_ff screen start 0) all ∙ went
-          ∙ ap (λ (k : ℕ). first_ff screen start k (bytes - n)) (zero-add (length one) ∙ one_long)
-          ∙ ap (first_ff screen start n) rest
-
-      pub ends_round : more < bytes - n → After (n + more) ≡ first_ff screen start 0 bytes
-      ends_round h =
-          let ended = (through_a_part screen start n 0 two two_is).0 (omega (arith, found_more, two_long)) in
-          sym (goes_on ∙ ended ∙ ap (λ (k : ℕ). After (n + k)) (sym found_more))
-
-      pub ends_nowhere : bytes - n ≤ more → Missing ≡ first_ff screen start 0 bytes
-      unfolding first_ff
-      ends_nowhere h =
-          sym (goes_on ∙ (through_a_part screen start n 0 two two_is).1 (omega (arith, found_more, two_long)))
+  -- a search through the one, and then through the other
+  pub found_in_two : {first second : Option ℕ} → first ≡ position is_ff one → second ≡ position is_ff two
+      → option_or first (option_map (λ k. n + k) second) ≡ first_ff screen start 0 bytes
+  unfolding first_ff
+  found_in_two in_one in_two =
+      let all : bytes ≡ length one + (length two + 0) = omega (arith, one_long, two_long, straight_on) in
+      let through = through_a_part screen start 0 (length two + 0) one one_is in
+      let to_two : 0 + length one ≡ n = omega (arith, one_long) in
+      let on = through_a_part screen start n 0 two two_is in
+      rw (all, through, to_two, on, in_one, in_two, position_from-zero is_ff one, position_later two n)
+      (ap (option_or (position_from is_ff 0 one)) (sym (or_none (option_map (λ k. n + k) (position is_ff two)))))

@@ -1,8 +1,7 @@
 -- Document 01, "The chain of lines": the rows.
-use Rattle.std.specs.Prelude.{ℕ, zero, suc, ◌+◌, ◌*◌, ◌/◌, ◌%◌, List, Bool, cond, get_or, eqb, ltb}
+use Rattle.std.specs.Prelude.{ℕ, zero, suc, ◌+◌, ◌*◌, ◌/◌, ◌%◌, ◌==◌, List, Bool, Option, Some, None, if◌then◌else◌, slice_index, nat_lt}
 use Rattle.chain.specs.declared.Head.{Head}
-use Rattle.chain.specs.declared.Terminator.{Terminator}
-use Rattle.chain.specs.declared.Terminator.TheVariants.{After, Missing}
+pub use Rattle.chain.specs.Places.{places}
 
 -- what a chain is read from: the column setting, 80 or 132, and the two memories
 pub record Chain : Type 0 where
@@ -13,12 +12,8 @@ pub record Chain : Type 0 where
 abbrev pub chain : ℕ → List ℕ → List ℕ → Chain
 chain columns screen attribute = record { columns = columns; screen = screen; attribute = attribute }
 
--- "Places in screen memory are twelve bits: all places are taken modulo 4,096."
-abbrev pub places : ℕ
-places = 4096
-
 unfoldable pub byte_at : List ℕ → ℕ → ℕ
-byte_at memory place = get_or memory (place % places) 0
+byte_at memory place = slice_index memory (place % places)
 
 -- "Bits 1,0 read: 00 bottom half of double height, 01 top half, 10 double width, 11 normal."
 abbrev pub bottom_half : ℕ
@@ -38,11 +33,11 @@ bits10 kind = kind % 4
 
 -- "The first three are the wide kinds."
 abbrev pub wide : ℕ → Bool
-wide kind = ltb (bits10 kind) normal
+wide kind = nat_lt (bits10 kind) normal
 
 -- "The capacity of a line is the column setting, 80 or 132, and half of it for the three wide kinds."
 unfoldable pub capacity : ℕ → ℕ → ℕ
-capacity columns kind = cond (wide kind) (columns / 2) columns
+capacity columns kind = if wide kind then columns / 2 else columns
 
 -- "Row 0 starts at place 0 (003) and is of kind 3"
 abbrev pub first : Head
@@ -50,14 +45,14 @@ first = record { start = 0; kind = 3 }
 
 -- "A row's cells run from its start to the first FF. FF is never a cell."
 -- the first FF among `bytes` bytes, the first of which is `cells` after the start
-unfoldable pub first_ff : List ℕ → (start cells bytes : ℕ) → Terminator
-first_ff screen start cells zero = Missing
+unfoldable pub first_ff : List ℕ → (start cells bytes : ℕ) → Option ℕ
+first_ff screen start cells zero = None
 first_ff screen start cells (suc bytes) =
     let later = first_ff screen start (cells + 1) bytes in
-    cond (eqb (byte_at screen (start + cells)) 0xFF) (After cells) later
+    if byte_at screen (start + cells) == 0xFF then Some cells else later
 
 -- "If none of the first capacity + 1 bytes is FF the row is torn"
-unfoldable pub terminator : Chain → Head → Terminator
+unfoldable pub terminator : Chain → Head → Option ℕ
 terminator c head = first_ff c.screen head.start 0 (capacity c.columns head.kind + 1)
 
 -- "The two bytes after FF are the next row's start, low byte first; the high byte's top four bits play no part."
@@ -75,9 +70,9 @@ pub data Row : Type 0 where
   Torn : (head : Head) → Row
   Dark : Row
 
-abbrev pub ended : Head → Terminator → Row
-ended head (After cells) = Whole head cells
-ended head Missing = Torn head
+abbrev pub ended : Head → Option ℕ → Row
+ended head (Some cells) = Whole head cells
+ended head None = Torn head
 
 unfoldable pub row_from : Chain → Head → Row
 row_from c head = ended head (terminator c head)

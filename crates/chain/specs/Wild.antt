@@ -1,5 +1,5 @@
 -- Document 02, ticket 1: "A dealer's patched herd book leaves rubbish in the top four bits of some links."
-use Rattle.std.specs.Prelude.{ℕ, ◌+◌, ◌/◌, ◌≡◌, List, Bool, true, false, not, eqb}
+use Rattle.std.specs.Prelude.{ℕ, ◌+◌, ◌/◌, ◌≡◌, List, Bool, true, false, not, ◌==◌}
 use Rattle.chain.specs.Chain.{Chain, Row, Whole, Torn, Dark, byte_at}
 
 -- the top four bits of a byte, as a number
@@ -8,7 +8,7 @@ top_four byte = byte / 16
 
 -- "whether its link had any of those bits set": the link after the FF at `place`, of which the high byte is the second
 unfoldable pub wild_link : (screen : List ℕ) → (place : ℕ) → Bool
-wild_link screen place = not (eqb (top_four (byte_at screen (place + 2))) 0)
+wild_link screen place = not (top_four (byte_at screen (place + 2)) == 0)
 
 -- "The reading of one row should now also say" so. "A torn or dark row has no link."
 unfoldable pub wild : Chain → Row → Bool

@@ -1,73 +1,64 @@
--- Laws about digits and numbers: how the reading of a number begins, goes on and ends.
+-- Laws about digits: what std says of one, and how the reading of a number goes on.
 use Prim.Native.Nat.{ℕ, ◌+◌, ◌*◌, ◌≤◌, ◌<◌}
 use mathlib.Core.Path.{◌≡◌, refl, sym, ◌∙◌}
-use mathlib.Core.List.{List}
-use mathlib.Core.Bool.{Bool, true, false, ◌&&◌, true≢false}
-use native.Mathlib.Nat.{mul-le-mul}
-use native.Mathlib.Omega.{arith}
+use mathlib.Core.List.{List, ◌∷◌}
+use Rattle.std.proofs.Common.{add-one}
 use lib.ListN.{length, get_or, drop, drop_of_length-le}
+use lib.Seq.{drop-cons}
+use native.Mathlib.Omega.{arith}
 use lib.Dec.{leb}
-use borrow.Author.Tests.{leb-true, le-leb, lt-leb, lt-ltb, le-ltb}
-use Rattle.commands.specs.Meanings.{among, digit, too_large, number_from, number}
-use Rattle.commands.specs.declared.meanings.Meaning.TheVariants.{Number, Wrong}
-use Rattle.ascii.proofs.Alike.{next}
+use mathlib.Core.Bool.{Bool, true, false}
+use borrow.Author.Tests.{lt-ltb, le-ltb, leb-true}
+use Rattle.std.specs.Char.{digit_value}
+use Rattle.std.specs.Prelude.{Some, None}
+use Rattle.std.proofs.lemmas.Bool.Decides.{nat_tests}
+use Rattle.commands.specs.Meanings.{digit, too_large, number_from, number}
 
-both : (a b : Bool) → (a && b) ≡ true → (a ≡ true) × (b ≡ true)
-both true b h = (refl, h)
-both false b h = absurd (true≢false (sym h))
+-- of the digits to a base of at most 16 std says the same
+pub digit_is : (byte : ℕ) → digit_value byte < 16 → digit byte ≡ digit_value byte
+unfolding digit
+digit_is byte under = grind (arith, nat_tests)
 
-pub among_bounds :
-    (low high byte : ℕ) {test : Bool} → test ≡ among low high byte → test ≡ true → (low ≤ byte) × (byte ≤ high)
-among_bounds low high byte is e =
-    let h = both (leb low byte) (leb byte high) (sym is ∙ e) in (leb-true _ _ h.0, leb-true _ _ h.1)
+pub none_is : (byte : ℕ) → 16 ≤ digit_value byte → digit byte ≡ 16
+unfolding digit
+none_is byte over = grind (arith, nat_tests)
 
--- a value and the base fit a product
-pub product_fits : {value base : ℕ} → value < too_large → base ≤ 16 → value * base ≤ too_large * 16
-product_fits {value} {base} small room = mul-le-mul {n₁ = value} {m₁ = base} {n₂ = too_large} {m₂ = 16} (omega arith) room
-
--- a walk over the digits of a word, whose value so far is known
-pub record Counted (base : ℕ) (form word : List ℕ) (value at : ℕ) : Type 0 where
-  pub within : at ≤ length word
-  pub small : value < too_large
+-- the reading of a word's digits, whose value so far is known
+pub record Reading (base : ℕ) (form word : List ℕ) (value at : ℕ) : Type 0 where
   pub left : number base form word ≡ number_from base value (drop at word)
 
-pub digits_begin : {base : ℕ} {form word : List ℕ} → length word ≤ length form → Counted base form word 0 0
-unfolding number
-digits_begin room = record { within = omega arith; small = omega arith; left = rw (le-leb _ _ room) refl }
+pub no_digit_of : {base : ℕ} (byte : ℕ) → base ≤ 16 → (digit_value byte < base → ⊥) → base ≤ digit byte
+no_digit_of {base} byte room none = go (leb 16 (digit_value byte)) refl
+  where
+    go : (b : Bool) → leb 16 (digit_value byte) ≡ b → base ≤ digit byte
+    go true e = let h = leb-true _ _ e in rw (none_is byte h) room
+    go false e = let h : digit_value byte < 16 = grind (arith, nat_tests) in rw (digit_is byte h) (omega arith)
 
-pub too_long : (base : ℕ) (form word : List ℕ) → length form < length word → Wrong ≡ number base form word
-unfolding number
-too_long base form word long = rw (lt-leb _ _ long) refl
+module _ {base value at : ℕ} {form word : List ℕ} (w : Reading base form word value at) (room : base ≤ 16)
+    (under : at < length word) {byte : ℕ} (read : byte ≡ get_or word at 0) where
+  at_byte : number base form word ≡ number_from base value (byte ∷ drop (at + 1) word)
+  at_byte = w.left ∙ rw (read, add-one, drop-cons word at 0 under) refl
 
-module _ {base : ℕ} {form word : List ℕ} {value at : ℕ} (w : Counted base form word value at) where
-  pub digits_on :
-      {d : ℕ} → d ≡ digit (get_or word at 0) → at < length word → d < base → value * base + d < too_large
-      → Counted base form word (value * base + d) (at + 1)
+  pub no_digit : (digit_value byte < base → ⊥) → None ≡ number base form word
   unfolding number_from
-  digits_on {d} is under h room =
-      let right : digit (get_or word at 0) < base = rw is at h in
-      let fits : value * base + digit (get_or word at 0) < too_large = rw is at room in
-      record {
-        within = omega arith;
-        small = room;
-        left = w.left ∙ rw (is, next word at under, lt-ltb _ _ right, lt-ltb _ _ fits) refl;
-      }
+  no_digit none = sym (at_byte ∙ rw (le-ltb _ _ (no_digit_of byte room none)) refl)
 
-  pub no_digit : {d : ℕ} → d ≡ digit (get_or word at 0) → at < length word → base ≤ d → Wrong ≡ number base form word
-  unfolding number_from
-  no_digit is under h =
-      let wrong : base ≤ digit (get_or word at 0) = rw is at h in
-      sym (w.left ∙ rw (next word at under, le-ltb _ _ wrong) refl)
+  module _ {d : ℕ} (known : (digit_value byte < base) × (d ≡ digit_value byte)) where
+    digit_known : digit byte ≡ d
+    digit_known = digit_is byte (omega arith) ∙ sym known.1
 
-  pub over_32_bits :
-      {d : ℕ} → d ≡ digit (get_or word at 0) → at < length word → d < base → too_large ≤ value * base + d
-      → Wrong ≡ number base form word
-  unfolding number_from
-  over_32_bits is under h large =
-      let right : digit (get_or word at 0) < base = rw is at h in
-      let over : too_large ≤ value * base + digit (get_or word at 0) = rw is at large in
-      sym (w.left ∙ rw (next word at under, lt-ltb _ _ right, le-ltb _ _ over) refl)
+    pub over_32_bits : too_large ≤ value * base + d → None ≡ number base form word
+    unfolding number_from
+    over_32_bits large = sym (at_byte ∙ rw (digit_known, lt-ltb d base (omega arith), le-ltb _ _ large) refl)
 
-  pub digits_end : length word ≤ at → Number value ≡ number base form word
-  unfolding number_from
-  digits_end past = sym (w.left ∙ rw (drop_of_length-le word past) refl)
+    pub digit_on : {more : ℕ} → (more < too_large) × (more ≡ value * base + d) → Reading base form word more (at + 1)
+    unfolding number_from
+    digit_on {more} small =
+        let fits : value * base + d < too_large = rw small.1 at small.0 in
+        record { left = at_byte ∙ rw (digit_known, lt-ltb d base (omega arith), lt-ltb _ _ fits, small.1) refl }
+
+pub digits_end :
+    {base value at : ℕ} {form word : List ℕ} → Reading base form word value at → length word ≤ at
+    → Some value ≡ number base form word
+unfolding number_from
+digits_end {word = word} w past = sym (w.left ∙ rw (drop_of_length-le word past) refl)

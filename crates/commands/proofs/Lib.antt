@@ -1,5 +1,4 @@
-pub mod Walks
+pub mod Splits
 pub mod Digits
-pub mod Searches
-pub mod Fitting
+pub mod Tables
 pub mod Worked

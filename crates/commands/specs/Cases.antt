@@ -1,26 +1,22 @@
 -- Worked cases: what lines are, with six forms and two names.
-use Rattle.std.specs.Prelude.{ℕ, ◌≡◌, List, [], ◌∷◌, ◌++◌, map, Bool, true, false, take, replicate}
+use Rattle.std.specs.Prelude.{ℕ, ◌≡◌, List, [], ◌∷◌, map, Bool, true, false}
 use Prim.Native.String.{String}
 use Rattle.ascii.specs.Ascii.{ascii}
-use Rattle.commands.specs.Slots.{form_bytes, name_bytes}
 use Rattle.commands.specs.Commands.{command, is_meant}
 use Rattle.commands.specs.declared.Command.{Command}
 
--- a text in a slot
-unfoldable pub padded : (size : ℕ) → String → List ℕ
-padded size text = take size (ascii text ++ replicate size 0x20)
-
-unfoldable pub form_table : List ℕ
+unfoldable pub form_table : List (List ℕ)
 form_table =
-    padded form_bytes "store HHHHHHHH HH"
-    ++ padded form_bytes "z80 read HHHH"
-    ++ padded form_bytes "lend NAME DDDDD"
-    ++ padded form_bytes "fill HH HH"
-    ++ padded form_bytes "fill DDD DDD"
-    ++ padded form_bytes "five D D D D DDDDDDDDDD"
+    ascii "store HHHHHHHH HH"
+    ∷ ascii "z80 read HHHH"
+    ∷ ascii "lend NAME DDDDD"
+    ∷ ascii "fill HH HH"
+    ∷ ascii "fill DDD DDD"
+    ∷ ascii "five D D D D DDDDDDDDDD"
+    ∷ []
 
-unfoldable pub name_table : List ℕ
-name_table = padded name_bytes "screen" ++ padded name_bytes "shadow"
+unfoldable pub name_table : List (List ℕ)
+name_table = ascii "screen" ∷ ascii "shadow" ∷ []
 
 -- a line, the form that it fits, and its first numbers
 pub record Case : Type 0 where
@@ -65,7 +61,7 @@ cases =
     ∷ []
 
 unfoldable pub answer : Case → Command
-answer c = record { form = c.form; first = c.first; second = c.second; third = c.third; fourth = c.fourth }
+answer c = record { form = c.form; numbers = c.first ∷ c.second ∷ c.third ∷ c.fourth ∷ [] }
 
 abbrev pub CasesHold : Type 0
 CasesHold = map (λ (c : Case). command form_table name_table c.line) cases ≡ map answer cases

@@ -1,6 +1,5 @@
 pub mod Words
-pub mod Slots
+pub mod Texts
 pub mod Meanings
 pub mod Commands
 pub mod Cases
-pub mod Inner

@@ -2,7 +2,7 @@
 use Rattle.std.specs.Prelude.{ℕ, List, [], ◌∷◌, ◌++◌, Bool, false, cond, not, ◌||◌, length, get_or, eqb, ltb}
 
 -- a space, a tab, a carriage return
-unfoldable pub blank : (byte : ℕ) → Bool
+abbrev pub blank : (byte : ℕ) → Bool
 blank byte = eqb byte 0x20 || eqb byte 0x09 || eqb byte 0x0D
 
 -- the bytes before the first blank

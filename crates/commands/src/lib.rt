@@ -2,136 +2,102 @@
 #![tactic(auto)]
 
 mod meanings;
-mod slots;
 mod words;
 
-ghost use Rattle.std.specs.Prelude.{◌≡◌};
+ghost use Rattle.std.specs.Prelude.{◌≡◌, length};
 ghost use Rattle.commands.specs.Words.{words, has_words};
-ghost use Rattle.commands.specs.Slots.{form_bytes, slot_count, slot};
-ghost use Rattle.commands.specs.Commands.{bare, joined, fitted, command, is_meant};
+ghost use Rattle.commands.specs.Texts.{texts, text};
+ghost use Rattle.commands.specs.Commands.{before, fitted, fitting, is_meant};
 
 use meanings::Meaning;
-
-pub const FORM_BYTES: usize = 32;
-
-pub const NAME_BYTES: usize = 16;
 
 // A form by its number, and the first four numbers of the line that fits it. Those that it has not are 0.
 #[derive(Clone, Copy)]
 pub struct Command {
     pub form: usize,
-    pub first: usize,
-    pub second: usize,
-    pub third: usize,
-    pub fourth: usize,
+    pub numbers: [usize; 4],
 }
 
-#[derive(Clone, Copy)]
-enum Fit {
-    Fits(Command),
-    Differs,
+impl Command {
+    // The same form with a number before the others. A fifth is not kept.
+    fn before(self, number: usize) -> Command
+        ensures { result ≡ before number self }
+    {
+        let [first, second, third, _] = self.numbers;
+        Command {
+            form: self.form,
+            numbers: [number, first, second, third],
+        }
+    }
 }
 
-// How many forms a table has.
-pub fn form_count(forms: &[u8]) -> usize
-    ensures { result ≡ slot_count form_bytes forms.now }
+// How many forms a table has: its own length, under the name by which crates/runs speaks of it.
+pub fn form_count(forms: &[&[u8]]) -> usize
+    ensures { result ≡ length (texts forms.now) }
 {
-    forms.len() / FORM_BYTES
+    forms.len()
 }
 
-// The bytes of a form, or no bytes where the table has none of that number.
-pub fn form_text(forms: &[u8], form: usize) -> &[u8]
-    ensures { result.now ≡ slot form_bytes forms.now form }
+// The text of a form, or no text where the table has none of that number.
+pub fn form_text<'a>(forms: &[&'a [u8]], form: usize) -> &'a [u8]
+    ensures { result.now ≡ text (texts forms.now) form }
 {
-    slots::slot(FORM_BYTES, forms, form)
+    match forms.get(form) {
+        Some(text) => *text,
+        None => &[],
+    }
 }
 
 // Whether a line has words: one that has none is passed over.
 pub fn has_words(line: &[u8]) -> bool
     ensures { result ≡ has_words line.now }
 {
-    words::first_word(line).len() > 0
+    words::split_word(line).is_some()
 }
 
 // Whether the line's first word is the form's.
-pub fn is_meant(forms: &[u8], form: usize, line: &[u8]) -> bool
-    ensures { result ≡ is_meant forms.now form line.now }
+pub fn is_meant(forms: &[&[u8]], form: usize, line: &[u8]) -> bool
+    ensures { result ≡ is_meant (texts forms.now) form line.now }
 {
-    let word = words::first_word(line);
-    if word.len() == 0 {
-        return false;
+    let wanted = words::split_word(form_text(forms, form));
+    let typed = words::split_word(line);
+    match (wanted, typed) {
+        (Some((wanted, _)), Some((typed, _))) => wanted == typed,
+        _ => false,
     }
-    ascii::same(words::first_word(form_text(forms, form)), word)
 }
 
-// The first form that the line fits, with its numbers; where none fits, how many forms there are.
-pub fn parse(forms: &[u8], names: &[u8], line: &[u8]) -> Command
-    ensures { result ≡ command forms.now names.now line.now }
+// The first form that the line fits, with its numbers.
+pub fn parse(forms: &[&[u8]], names: &[&[u8]], line: &[u8]) -> Option<Command>
+    ensures { result ≡ fitting (texts forms.now) (texts names.now) line.now }
 {
-    let count = form_count(forms);
-    let mut form = 0;
-    while form < count {
-        let fit = fitted(names, form, form_text(forms, form), line);
-        if let Fit::Fits(command) = fit {
-            return command;
+    for (form, text) in forms.iter().enumerate() {
+        let fit = fitted(names, form, text, line);
+        if fit.is_some() {
+            return fit;
         }
-        form += 1;
     }
-    bare(form)
+    None
 }
 
-// A form with no numbers.
-fn bare(form: usize) -> Command
-    ensures { result ≡ bare form }
-{
-    Command {
-        form,
-        first: 0,
-        second: 0,
-        third: 0,
-        fourth: 0,
-    }
-}
-
-// A word, and then the words after it. A fifth number is not kept.
-fn joined(meaning: Meaning, rest: Fit) -> Fit
-    ensures { result ≡ joined meaning rest }
-{
-    match meaning {
-        Meaning::Wrong => Fit::Differs,
-        Meaning::Plain => rest,
-        Meaning::Number(n) => match rest {
-            Fit::Fits(command) => Fit::Fits(Command {
-                form: command.form,
-                first: n,
-                second: command.first,
-                third: command.second,
-                fourth: command.third,
-            }),
-            Fit::Differs => Fit::Differs,
-        },
-    }
-}
-
-// A call for each word: a form has no more than 16.
-fn fitted(names: &[u8], number: usize, form: &[u8], line: &[u8]) -> Fit
+// The numbers of a line that fits a form: a call for each word of the form.
+fn fitted(names: &[&[u8]], number: usize, form: &[u8], line: &[u8]) -> Option<Command>
     ensures { result
-        ≡ fitted names.now number (words form.now) (words line.now) }
+        ≡ fitted (texts names.now) number (words form.now) (words line.now) }
 {
-    let wanted = words::first_word(form);
-    let typed = words::first_word(line);
-    if wanted.len() == 0 {
-        if typed.len() == 0 {
-            return Fit::Fits(bare(number));
+    match (words::split_word(form), words::split_word(line)) {
+        (None, None) => Some(Command {
+            form: number,
+            numbers: [0; 4],
+        }),
+        (Some((wanted, form)), Some((typed, line))) => {
+            let meaning = meanings::meaning_of(names, wanted, typed)?;
+            let rest = fitted(names, number, form, line)?;
+            match meaning {
+                Meaning::Number(n) => Some(rest.before(n)),
+                Meaning::Plain => Some(rest),
+            }
         }
-        return Fit::Differs;
+        _ => None,
     }
-    if typed.len() == 0 {
-        return Fit::Differs;
-    }
-    let meaning = meanings::meaning_of(names, wanted, typed);
-    joined(
-        meaning,
-        fitted(names, number, words::rest(form), words::rest(line)),
-    )
 }

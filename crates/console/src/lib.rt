@@ -10,7 +10,7 @@ use std::io::Read;
 use std::rt::Env;
 
 // Reads until to is full, the input ends or a read fails, and returns how many bytes it put at the start of to. On an
-// empty to it reads nothing.
+// empty to it reads nothing. std's read_exact does not say how many bytes there were, so the loop stays.
 pub fn read_full<R: Read>(from: &mut R, to: &mut [u8]) -> usize
     ensures { result ≤ length to.new }
 {

@@ -3,15 +3,17 @@
 #![tactic(auto)]
 
 ghost use Rattle.std.specs.Prelude.{◌≡◌};
+ghost use Rattle.machine.specs.Written.{written};
 ghost use Rattle.dc012.specs.Dc012.{write_dc012};
 
-use machine::{Machine, Written};
+use lent::Refusal;
+use machine::Machine;
 
 // What a code written to port 0C or 10C does, but for enabling and disabling the watchdog.
-pub fn write_dc012(mut machine: Machine, code: u8) -> Written
-    ensures { result ≡ write_dc012 machine code }
+pub fn write_dc012(mut machine: Machine, code: u8) -> Result<Machine, Refusal>
+    ensures { written machine result ≡ write_dc012 machine code }
 {
-    let latch = machine.latch % 16;
+    let latch = machine.scroll_latch();
     match code {
         0..=3 => machine.latch = latch / 4 * 4 + code,
         4..=7 => machine.latch = (code - 4) * 4 + latch % 4,
@@ -22,15 +24,7 @@ pub fn write_dc012(mut machine: Machine, code: u8) -> Written
         }
         0x0A => machine.reverse = true,
         0x0B => machine.reverse = false,
-        _ => {
-            return Written {
-                refusal: lent::CODE,
-                machine,
-            };
-        }
+        _ => return Err(Refusal::Code),
     }
-    Written {
-        refusal: lent::ACCEPTED,
-        machine,
-    }
+    Ok(machine)
 }

@@ -2,49 +2,40 @@
 // the copies between shadow and NVM.
 #![tactic(auto)]
 
-ghost use Rattle.std.specs.Prelude.{◌≡◌, ◌%◌, ◌&&◌, eqb, length};
+ghost use Rattle.std.specs.Prelude.{◌≡◌, ◌%◌, ◌&&◌, eqb};
+ghost use Rattle.machine.specs.Written.{written};
 ghost use Rattle.diagnostic.specs.Diagnostic.{write_diagnostic, written_port};
 
-use lent::copy;
-use machine::{Machine, Written};
+use lent::Refusal;
+use machine::Machine;
 
-// What a byte written to port 0A does. The caller has tested both lengths: a copy moves every byte of the one into
-// the other.
-pub fn write_diagnostic(machine: Machine, shadow: &mut [u8], nvm: &mut [u8], code: u8) -> Written
-    requires { length shadow.old ≡ length nvm.old }
-    ensures { written_port result shadow.new nvm.new
+// What a byte written to port 0A does, with a shadow and an NVM of one length.
+pub fn write_diagnostic<const N: usize>(
+    machine: Machine,
+    shadow: &mut [u8; N],
+    nvm: &mut [u8; N],
+    code: u8,
+) -> Result<Machine, Refusal>
+    ensures { written_port (written machine result) shadow.new nvm.new
         ≡ write_diagnostic machine shadow.old nvm.old code }
 {
-    let held = machine.held;
-    let saves = rises(held / 64, code / 64);
-    let recalls = rises(held / 128, code / 128);
-    let mut holding = machine;
-    holding.held = code;
-    if saves {
-        if recalls {
-            return Written {
-                refusal: lent::EDGES,
-                machine,
-            };
-        }
-        copy(shadow, nvm);
-    } else {
-        if recalls {
-            copy(nvm, shadow);
-        }
+    let saves = rises(machine.held / 64, code / 64);
+    let recalls = rises(machine.held / 128, code / 128);
+    match (saves, recalls) {
+        (true, true) => return Err(Refusal::Edges),
+        (true, false) => *nvm = *shadow,
+        (false, true) => *shadow = *nvm,
+        (false, false) => {}
     }
-    Written {
-        refusal: lent::ACCEPTED,
-        machine: holding,
-    }
+    Ok(Machine {
+        held: code,
+        ..machine
+    })
 }
 
 // The lowest bit goes from 0 to 1.
 fn rises(before: u8, after: u8) -> bool
     ensures { result ≡ (eqb (before % 2) 0 && eqb (after % 2) 1) }
 {
-    if before % 2 != 0 {
-        return false;
-    }
-    after % 2 == 1
+    before % 2 == 0 && after % 2 == 1
 }

@@ -1,19 +1,19 @@
 -- Laws about the shades of a cell's dots, and about what is the same of each number of a few.
 use Prim.Native.Nat.{ℕ, zero, suc, ◌+◌, ◌≤◌, ◌<◌}
 use mathlib.Core.Path.{◌≡◌, refl, sym, ◌∙◌}
-use mathlib.Core.List.{List, [], ◌∷◌, append-nil}
+use mathlib.Core.List.{List, [], ◌∷◌}
 use mathlib.Core.Bool.{Bool, true, false, cond, not, ◌&&◌, beq}
 use native.Mathlib.Omega.{arith}
-use lib.ListN.{length, get_or, drop, set, length-drop, length-set, drop_of_length-le}
-use lib.Seq.{get_or-set_same, get_or-set_other, sets, sets-eq}
+use lib.ListN.{length, get_or, set, length-set}
+use lib.Seq.{get_or-set_same, get_or-set_other}
 use lib.Dec.{eqb}
 use lib.Bits.{bit_xor, xor_zero_l, xor_zero_r, xor_self}
 use borrow.Author.Count.{below_more}
 use borrow.Author.Rules.{rules}
 use Rattle.lent.proofs.Tests.{either}
 use Rattle.machine.specs.declared.Machine.{Machine}
+use Rattle.dots.specs.Inner.{OfEach}
 use Rattle.dots.specs.Attributes.{is_reverse, is_bold, is_underlined, underline_scan, xor, lit, steady, intensity, shade}
-use Rattle.dots.specs.Inner.{ForEach}
 
 -- exclusive or as the code has it
 pub xor_differ : (a b : Bool) → not (beq a b) ≡ xor a b
@@ -79,12 +79,5 @@ one_stored {of} {all} {n} {new} s h e =
           (get_or-set_same all n new 0 (omega (arith, s.same)) ∙ e);
     }
 
-pub all_stored : {of : ℕ → ℕ} {all : List ℕ} {n : ℕ} → Stored of all n → 16 ≤ n → ForEach of all
+pub all_stored : {of : ℕ → ℕ} {all : List ℕ} {n : ℕ} → Stored of all n → 16 ≤ n → OfEach of all
 all_stored s h k l = s.stored k (omega arith)
-
--- all bytes after some are stored, so nothing of what was there is left
-pub rest_stored : (into : List ℕ) (k : ℕ) (rest : List ℕ) → length into ≡ k + length rest → sets (drop k into) 0 rest ≡ rest
-rest_stored into k rest e =
-    let same : length (drop k into) ≡ length rest = simp length-drop (omega arith) in
-    sets-eq rest (drop k into) 0 (omega arith)
-    ∙ rw (drop_of_length-le (drop k into) {i = 0 + length rest} (omega arith)) (append-nil rest)

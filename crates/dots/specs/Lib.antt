@@ -1,3 +1,4 @@
 pub mod Attributes
 pub mod Cell
+pub mod Shading
 pub mod Inner

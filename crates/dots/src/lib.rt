@@ -2,86 +2,87 @@
 // them. Document 01, "Dots".
 #![tactic(auto)]
 
-ghost use Rattle.std.specs.Prelude.{◌≡◌, true, false, cond, ◌&&◌, length, eqb};
+ghost use Rattle.std.specs.Prelude.{◌≡◌, ◌≤◌, ◌<◌, ◌&&◌, ◌==◌, ◌++◌, ◌-◌, ◌%◌, if◌then◌else◌, true, false, length, replicate};
+ghost use Rattle.std.specs.Int.{w64, to_le_bytes};
 ghost use Rattle.std.specs.Int.Bits.{bit_xor};
-ghost use Rattle.dots.specs.Attributes.{is_underlined, underline_scan, lit, steady, blinks};
-ghost use Rattle.dots.specs.Attributes.{intensity, shade};
-ghost use Rattle.dots.specs.Cell.{narrow_width, wide_width};
-ghost use Rattle.dots.specs.Inner.{ForEach, half_word, turn_of, unlit_of, word_bytes, width_of};
-ghost use Rattle.dots.specs.Inner.{narrow_bytes, wide_bytes, cell_bytes};
+ghost use Rattle.dots.specs.Attributes.{is_reverse, is_underlined, underline_scan, xor, steady, blinks, intensity, shade};
+ghost use Rattle.dots.specs.Shading.{Shading, shading, shown_cell};
+ghost use Rattle.dots.specs.Inner.{eight, half_word, OfEach, TurnOfEach, UnlitOfEach, last_byte, width_of};
 
+use glyphs::Scan;
 use machine::Machine;
+use std::marker::Model;
 
 // An attribute is taken modulo 16.
-pub const ATTRIBUTES: usize = 16;
+const ATTRIBUTES: usize = 16;
 // The scan of a glyph that underline lights.
 const UNDERLINE_SCAN: usize = 9;
 
-// Whether underline lights all dots.
-fn is_underlined(attribute: u8, scan: usize) -> bool
-    ensures { result ≡ (is_underlined attribute && eqb scan underline_scan) }
-{
-    (attribute / 8 % 2 == 0) & (scan == UNDERLINE_SCAN)
+// What decides how a dot of a glyph is shown.
+#[derive(Clone, Copy)]
+struct Look {
+    machine: Machine,
+    attribute: u8,
+    scan: Scan,
 }
 
-// Whether a dot of the glyph is lit as the cell shows it. Underline comes ahead of reverse.
-fn is_lit(machine: Machine, attribute: u8, scan: usize, dot: bool) -> bool
-    ensures { result ≡ lit machine attribute scan dot }
-{
-    let reverse = (attribute % 2 == 1) ^ machine.reverse;
-    reverse ^ (dot | is_underlined(attribute, scan))
-}
-
-// A lit dot that does not blink.
-fn steady(attribute: u8) -> u8
-    ensures { result ≡ steady attribute }
-{
-    if attribute / 2 % 2 == 0 { 3 } else { 2 }
-}
-
-// What blinking takes off a lit dot.
-fn dimmed(machine: Machine, attribute: u8) -> u8
-    ensures { result ≡ cond (blinks attribute && machine.blink) 1 0 }
-{
-    if (attribute / 4 % 2 == 0) & machine.blink {
-        1
-    } else {
-        0
+impl Look {
+    // Whether underline lights all dots.
+    fn is_underlined(&self) -> bool
+        ensures { result ≡ (is_underlined self.now.attribute && self.now.scan == underline_scan) }
+    {
+        (self.attribute / 8 % 2 == 0) & (self.scan.number() == UNDERLINE_SCAN)
     }
-}
 
-fn lit_intensity(machine: Machine, attribute: u8) -> u8
-    ensures { result ≡ intensity machine attribute true }
-{
-    steady(attribute) - dimmed(machine, attribute)
-}
+    // A lit dot that does not blink.
+    fn steady(&self) -> u8
+        ensures { result ≡ steady self.now.attribute }
+    {
+        if self.attribute / 2 % 2 == 0 { 3 } else { 2 }
+    }
 
-// What a lit dot shows is worked out for an unlit one too, so that only numbers are chosen between: a line asks this of
-// every attribute, and of a way around the work a compiler makes jumps.
-fn intensity_of(machine: Machine, attribute: u8, lit: bool) -> u8
-    ensures { result ≡ intensity machine attribute lit }
-{
-    let shown = lit_intensity(machine, attribute);
-    if lit { shown } else { 0 }
-}
+    // What blinking takes off a lit dot.
+    fn dimmed(&self) -> u8
+        ensures { result ≡ (if blinks self.now.attribute && self.now.machine.blink then 1 else 0) }
+    {
+        ((self.attribute / 4 % 2 == 0) & self.machine.blink) as u8
+    }
 
-// How a cell shows a dot of its glyph.
-fn shade(machine: Machine, attribute: u8, scan: usize, dot: bool) -> u8
-    ensures { result ≡ shade machine attribute scan dot }
-{
-    intensity_of(machine, attribute, is_lit(machine, attribute, scan, dot))
-}
+    fn lit(&self) -> u8
+        ensures { result ≡ intensity self.now.machine self.now.attribute true }
+    {
+        self.steady() - self.dimmed()
+    }
 
-// By what the shade of a lit dot of the glyph differs from that of an unlit one: one of them is lit as the cell shows
-// them, and the other is not, unless underline lights both.
-fn turn_of(machine: Machine, attribute: u8, scan: usize) -> u8
-    ensures { result ≡ bit_xor (shade machine attribute scan true) (shade machine attribute scan false) }
-{
-    let shown = lit_intensity(machine, attribute);
-    if is_underlined(attribute, scan) {
-        0
-    } else {
-        shown
+    // Whether lit dots are shown unlit, and unlit ones lit.
+    fn is_inverted(&self) -> bool
+        ensures { result ≡ xor (is_reverse self.now.attribute) self.now.machine.reverse }
+    {
+        (self.attribute % 2 == 1) ^ self.machine.reverse
+    }
+
+    // An unlit dot of the glyph. Underline comes ahead of reverse. What a lit dot shows is worked out for one that is not
+    // too, so that only numbers are chosen between: a line asks this of every attribute, and of a way around the work a
+    // compiler makes jumps.
+    fn unlit(&self) -> u8
+        ensures { result ≡ shade self.now.machine self.now.attribute self.now.scan false }
+    {
+        let shown = self.lit();
+        if self.is_inverted() ^ self.is_underlined() {
+            shown
+        } else {
+            0
+        }
+    }
+
+    // By what the shade of a lit dot of the glyph differs from that of an unlit one: one of them is lit as the cell shows
+    // them, and the other is not, unless underline lights both.
+    fn turn(&self) -> u8
+        ensures { result ≡ bit_xor (shade self.now.machine self.now.attribute self.now.scan true)
+            (shade self.now.machine self.now.attribute self.now.scan false) }
+    {
+        let shown = self.lit();
+        if self.is_underlined() { 0 } else { shown }
     }
 }
 
@@ -91,7 +92,7 @@ const NARROW_HALVES: [u64; 16] = [
     0x000000ff, 0xff0000ff, 0x00ff00ff, 0xffff00ff, 0x0000ffff, 0xff00ffff, 0x00ffffff, 0xffffffff,
 ];
 
-// The same, each dot twice.
+// The same, each dot twice. Written out too, since a constant calls no function.
 const WIDE_HALVES: [u64; 16] = [
     0x0000000000000000,
     0xffff000000000000,
@@ -112,133 +113,97 @@ const WIDE_HALVES: [u64; 16] = [
 ];
 
 // The dots of each half of a glyph, as a narrow cell has them or a wide one.
-pub fn halves(wide: bool) -> [u64; 16]
-    ensures { ForEach (half_word wide) result }
+fn halves(wide: bool) -> &'static [u64; 16]
+    ensures { OfEach (half_word wide) result.now }
 {
-    if wide { WIDE_HALVES } else { NARROW_HALVES }
+    if wide { &WIDE_HALVES } else { &NARROW_HALVES }
 }
 
-// For each attribute, its turn: the same in eight bytes.
-pub fn put_turns(machine: Machine, scan: usize, turns: &mut [u64; ATTRIBUTES])
-    requires { length turns.old ≡ 16 }
-    ensures { ForEach (turn_of machine scan) turns.new }
+// Eight dots alike.
+fn eight(dot: u8) -> u64
+    ensures { result ≡ eight dot }
 {
-    let mut attribute = 0;
-    while attribute < ATTRIBUTES {
-        turns[attribute] = turn_of(machine, attribute as u8, scan) as u64 * 0x0101010101010101;
-        attribute += 1;
+    dot as u64 * 0x0101010101010101
+}
+
+// Puts eight dots, and the last of them again as often as there is room.
+fn put_filled(word: u64, into: &mut [u8])
+    requires { 8 ≤ length into.old }
+    ensures { into.new ≡ to_le_bytes w64 word ++ replicate (length into.old - 8) (last_byte word) }
+{
+    let dots = word.to_le_bytes();
+    into[..8].copy_from_slice(&dots);
+    into[8..].fill(dots[7]);
+}
+
+// How the cells of a machine show dots at a scan of the glyph, worked out for each attribute.
+#[derive(Drop)]
+pub struct Shades {
+    machine: Machine,
+    scan: Scan,
+    // By what lit dots of the glyph differ from unlit ones, eight of them.
+    turns: [u64; ATTRIBUTES],
+    // Eight unlit dots.
+    unlit: [u64; ATTRIBUTES],
+}
+
+impl Model for Shades {
+    ghost Value = { Shading };
+
+    ghost view = { λ s. shading s.machine s.scan };
+
+    ghost invariant = { λ s. TurnOfEach s.machine s.scan s.turns × UnlitOfEach s.machine s.scan s.unlit };
+}
+
+impl Shades {
+    pub fn new(machine: Machine, scan: Scan) -> Shades
+        ensures { result ≡ shading machine scan }
+    {
+        let mut turns = [0; ATTRIBUTES];
+        let mut unlit = [0; ATTRIBUTES];
+        for at in 0..ATTRIBUTES {
+            let look = Look {
+                machine,
+                attribute: at as u8,
+                scan,
+            };
+            turns[at] = eight(look.turn());
+            unlit[at] = eight(look.unlit());
+        }
+        Shades {
+            machine,
+            scan,
+            turns,
+            unlit,
+        }
     }
-}
 
-// For each attribute, eight unlit dots.
-pub fn put_unlit(machine: Machine, scan: usize, words: &mut [u64; ATTRIBUTES])
-    requires { length words.old ≡ 16 }
-    ensures { ForEach (unlit_of machine scan) words.new }
-{
-    let mut attribute = 0;
-    while attribute < ATTRIBUTES {
-        words[attribute] = shade(machine, attribute as u8, scan, false) as u64 * 0x0101010101010101;
-        attribute += 1;
+    // Draws a cell of a glyph byte: eight dots, and after them bit 0 again. A wide one shows each dot twice.
+    pub fn draw_cell(&self, wide: bool, attribute: u8, glyph: u8, into: &mut [u8])
+        requires { length into.old ≡ width_of self.now.machine.columns132 wide }
+        ensures { into.new ≡ shown_cell self.now wide (attribute % 16) glyph }
+    {
+        let attribute = attribute as usize % ATTRIBUTES;
+        let turn = self.turns[attribute];
+        let unlit = self.unlit[attribute];
+        let halves = halves(wide);
+        let upper = halves[(glyph / 16) as usize];
+        let lower = halves[(glyph % 16) as usize];
+        if wide {
+            let four = upper & turn ^ unlit;
+            let (first, rest) = into.split_at_mut(8);
+            first.copy_from_slice(&four.to_le_bytes());
+            put_filled(lower & turn ^ unlit, rest);
+        } else {
+            put_filled((upper | lower << 32) & turn ^ unlit, into);
+        }
     }
-}
-
-// Puts the eight bytes of a word, the lowest first. They are written out one by one, of which a compiler makes one
-// store; of a loop it does not.
-fn put_word(word: u64, into: &mut [u8])
-    requires { length into.old ≡ 8 }
-    ensures { into.new ≡ word_bytes word }
-{
-    into[0] = (word % 256) as u8;
-    into[1] = (word / 0x100 % 256) as u8;
-    into[2] = (word / 0x10000 % 256) as u8;
-    into[3] = (word / 0x1000000 % 256) as u8;
-    into[4] = (word / 0x100000000 % 256) as u8;
-    into[5] = (word / 0x10000000000 % 256) as u8;
-    into[6] = (word / 0x1000000000000 % 256) as u8;
-    into[7] = (word / 0x100000000000000 % 256) as u8;
-}
-
-// Eight dots, and after them bit 0 again, once at 132 columns, twice at 80.
-fn draw_narrow(
-    columns132: bool,
-    halves: &[u64; 16],
-    turn: u64,
-    unlit: u64,
-    glyph: u8,
-    into: &mut [u8],
-)
-    requires for_each { ForEach (half_word false) halves.now }
-    requires into_len { length into.old ≡ narrow_width columns132 }
-    ensures { into.new ≡ narrow_bytes columns132 turn unlit glyph }
-{
-    let upper = halves[(glyph / 16) as usize];
-    let lower = halves[(glyph % 16) as usize];
-    let eight = (upper | lower << 32) & turn ^ unlit;
-    put_word(eight, &mut into[0..8]);
-    let fill = (eight / 0x100000000000000 % 256) as u8;
-    into[8] = fill;
-    if columns132 {
-        return;
-    }
-    into[9] = fill;
-}
-
-// The same, each dot twice.
-fn draw_wide(
-    columns132: bool,
-    halves: &[u64; 16],
-    turn: u64,
-    unlit: u64,
-    glyph: u8,
-    into: &mut [u8],
-)
-    requires for_each { ForEach (half_word true) halves.now }
-    requires into_len { length into.old ≡ wide_width columns132 }
-    ensures { into.new ≡ wide_bytes columns132 turn unlit glyph }
-{
-    let upper = halves[(glyph / 16) as usize];
-    let lower = halves[(glyph % 16) as usize];
-    let four = upper & turn ^ unlit;
-    let more = lower & turn ^ unlit;
-    put_word(four, &mut into[0..8]);
-    put_word(more, &mut into[8..16]);
-    let fill = (more / 0x100000000000000 % 256) as u8;
-    into[16] = fill;
-    into[17] = fill;
-    if columns132 {
-        return;
-    }
-    into[18] = fill;
-    into[19] = fill;
 }
 
 // How many dots a cell has.
 pub fn cell_width(columns132: bool, wide: bool) -> usize
     ensures { result ≡ width_of columns132 wide }
 {
-    if columns132 {
-        return if wide { 18 } else { 9 };
-    }
-    if wide { 20 } else { 10 }
-}
-
-// A cell of a glyph, whose unlit dots are those of a word, and whose lit ones differ from them by `turn`.
-pub fn draw_cell(
-    columns132: bool,
-    wide: bool,
-    halves: &[u64; 16],
-    turn: u64,
-    unlit: u64,
-    glyph: u8,
-    into: &mut [u8],
-)
-    requires for_each { ForEach (half_word wide) halves.now }
-    requires into_len { length into.old ≡ width_of columns132 wide }
-    ensures { into.new ≡ cell_bytes columns132 wide turn unlit glyph }
-{
-    if wide {
-        draw_wide(columns132, halves, turn, unlit, glyph, into);
-    } else {
-        draw_narrow(columns132, halves, turn, unlit, glyph, into);
-    }
+    let dots = if columns132 { 9 } else { 10 };
+    if wide { 2 * dots } else { dots }
 }

@@ -9,6 +9,7 @@ use lib.ListN.{length, get_or, set}
 use lib.Seq.{get_or-set_same, get_or-set_other}
 use lib.Dec.{eqb, ltb}
 use borrow.Author.Tests.{eqb-true, eqb-false, ne_eqb, eq-eqb, lt-ltb}
+use Rattle.std.specs.Prelude.{Some}
 use Rattle.memories.specs.declared.view8088.Seen.TheVariants.{Screen}
 use Rattle.chain.specs.Chain.{Chain, Row as ARow, Whole, Torn, Dark as DarkRow, places, byte_at, capacity, first_ff, terminator, ended, link, row_from, next, row_at}
 use Rattle.chain.specs.Reading.{from, screen_read}
@@ -78,7 +79,7 @@ from_split place (suc a) b =
 
 module _ (c : Chain) (place byte : ℕ) (shared : List ℕ) (long : length c.screen ≡ places) (within : place < places) where
   abbrev d : Chain
-  d = chain_stored c (Screen place) byte shared
+  d = chain_stored c (Some (Screen place)) byte shared
 
   module _ (not_ff : byte ≡ 0xFF → ⊥) (was_not : byte_at c.screen place ≡ 0xFF → ⊥) where
     row_same : (head : Head) → row_from d head ≡ row_from c head
@@ -146,8 +147,8 @@ module _ (c : Chain) (row column place byte : ℕ) (told : Told c row column pla
   -- the row is the one that its head makes
   own_row : (one : ARow) → Stands c one → HasHead one cell.head → row_from c cell.head ≡ one
   unfolding row_from
-  own_row (Whole own cells) s has = rw (← has, s.1.0)
-  own_row (Torn own) s has = rw (← has, s.1)
+  own_row (Whole own cells) s has = rw (← has, s.0)
+  own_row (Torn own) s has = rw (← has, s)
   own_row DarkRow s has = absurd has
 
   head_of_lem : (one : ARow) → HasHead one cell.head → head_of one ≡ cell.head
@@ -199,8 +200,8 @@ desk_promise c row column place byte shared told unread =
       becomes = becomes;
       changes = λ e. told.differs (head_same (sym becomes ∙ e ∙ showed.0));
       earlier_stay =
-          records_are_what_the_rows_read c (chain_stored c (Screen place) byte shared) row
-          (λ ahead h. unread_leaves c (Screen place) byte shared (row_at c ahead) (unread ahead h));
+          records_are_what_the_rows_read c (chain_stored c (Some (Screen place)) byte shared) row
+          (λ ahead h. unread_leaves c (Some (Screen place)) byte shared (row_at c ahead) (unread ahead h));
     }
   where
     head_same : {a b x y : ℕ} → ◌≡◌ {A = List ℕ} (a ∷ x ∷ []) (b ∷ y ∷ []) → a ≡ b

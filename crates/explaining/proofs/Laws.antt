@@ -5,40 +5,38 @@ use mathlib.Core.List.{List}
 use mathlib.Core.Bool.{Bool, true, false, true≢false, cond, and-eq-true_iff}
 use native.Mathlib.Numerals.{add-one}
 use native.Mathlib.Omega.{arith}
-use lib.Dec.{eqb, leb, ltb}
+use lib.Dec.{eqb, ltb}
 use borrow.Author.Tests.{eqb-true, eqb-false, ltb-true}
 use Rattle.lent.specs.Refusals.{accepted}
-use Rattle.lent.proofs.Tests.{either}
-use Rattle.chain.specs.Chain.{Chain, Row as ARow, Whole, Torn, Dark as DarkRow, places, byte_at, first, capacity, first_ff, terminator, ended, link, row_from, next, rows, row_at}
-use Rattle.chain.specs.Inner.{row_ahead, ahead_of, Placed as PlacedAhead}
+use Rattle.chain.specs.Chain.{Chain, Row as ARow, Whole, Torn, Dark as DarkRow, byte_at, first, capacity, first_ff, terminator, ended, link, row_from, next, rows, row_at}
+use Rattle.chain.specs.Inner.{row_ahead, ahead_of}
 use Rattle.chain.specs.declared.Head.{Head}
-use Rattle.chain.specs.declared.Ahead.{Ahead}
-use Rattle.chain.specs.declared.Ahead.TheVariants.{Row as RowAhead, Dark as DarkAhead}
-use Rattle.chain.specs.declared.Terminator.{Terminator}
-use Rattle.chain.specs.declared.Terminator.TheVariants.{After, Missing}
 use Rattle.chain.proofs.First.{first_that_lem}
-use Rattle.chain.proofs.Laws.{ahead_leads, ahead_placed, found_within}
+use Rattle.chain.proofs.Laws.{ahead_leads, found_within}
 use Rattle.explaining.specs.Explain.{led_to, is_torn, row_that_tore, comes_to, reached, why_in, why}
 use Rattle.records.specs.Record.{record_pairs}
 use Rattle.explaining.specs.Call.{on_screen}
 use Rattle.explaining.specs.Numbers.{told}
-use Rattle.explaining.specs.Inner.{after, Placed, in_row}
-use Rattle.explaining.specs.declared.Led.{Led}
-use Rattle.explaining.specs.declared.Led.TheVariants.{Row0}
-use Rattle.explaining.specs.declared.Reached.TheVariants.{Row, Dark as DarkReached}
+use Rattle.explaining.specs.Inner.{after, in_row}
+use Rattle.explaining.specs.declared.Reached.{Reached}
+use Rattle.std.specs.Prelude.{Option, Some, None, Result, Ok, Err}
 use Rattle.explaining.specs.declared.Why.{Why}
-use Rattle.explaining.specs.declared.Why.TheVariants.{Dark}
+use Rattle.explaining.specs.declared.Why.TheVariants.{Cell, Fill, Past, Dark}
 
--- what a search for a row's FF found
-pub terminator_found :
-    (c : Chain) (head : Head) {cap : ℕ} {t : Terminator} → cap ≡ capacity c.columns head.kind
-    → t ≡ first_ff c.screen head.start 0 (cap + 1) → terminator c head ≡ t
-unfolding terminator
-terminator_found c head is found = ap (λ (n : ℕ). first_ff c.screen head.start 0 (n + 1)) (sym is) ∙ sym found
+-- what is reached is a head and what led there
+found_is :
+    (own : Head) (led : Option ℕ) (found : Reached) → ◌≡◌ {A = Result Reached ℕ} (Ok (record { head = own; led = led })) (Ok found)
+    → ◌≡◌ {A = Reached} (record { head = own; led = led }) found
+found_is own led found e = cc
 
--- and FF stands where it was found
+head_same :
+    (own : Head) (led : Option ℕ) (found : Reached) → ◌≡◌ {A = Result Reached ℕ} (Ok (record { head = own; led = led })) (Ok found)
+    → own ≡ found.head
+head_same own led found e = ap (λ (r : Reached). r.head) (found_is own led found e)
+
+-- FF stands where a search finds it
 pub found_ff :
-    (screen : List ℕ) (start cells bytes : ℕ) {n : ℕ} → first_ff screen start cells bytes ≡ After n
+    (screen : List ℕ) (start cells bytes : ℕ) {n : ℕ} → first_ff screen start cells bytes ≡ Some n
     → byte_at screen (start + n) ≡ 0xFF
 unfolding first_ff
 found_ff screen start cells zero e = let z : ◌≡◌ {A = ℕ} 0 1 = cc in absurd (omega arith)
@@ -47,16 +45,15 @@ found_ff screen start cells (suc bytes) {n} e =
   where
     go :
         (b : Bool) → eqb (byte_at screen (start + cells)) 0xFF ≡ b
-        → (first_ff screen start (cells + 1) bytes ≡ After n → byte_at screen (start + n) ≡ 0xFF)
-        → cond b (After cells) (first_ff screen start (cells + 1) bytes) ≡ After n → byte_at screen (start + n) ≡ 0xFF
+        → (first_ff screen start (cells + 1) bytes ≡ Some n → byte_at screen (start + n) ≡ 0xFF)
+        → cond b (Some cells) (first_ff screen start (cells + 1) bytes) ≡ Some n → byte_at screen (start + n) ≡ 0xFF
     go true h later is = let here : cells ≡ n = cc in rw (← here) (eqb-true (byte_at screen (start + cells)) 0xFF h)
     go false h later is = later is
 
--- a row of the chain starts at a place, and ends as the search for its FF says
+-- a row of the chain ends as the search for its FF says
 abbrev pub Stands : Chain → ARow → Type 0
-Stands c (Whole head cells) =
-    (head.start < places) × ((terminator c head ≡ After cells) × (cells ≤ capacity c.columns head.kind))
-Stands c (Torn head) = (head.start < places) × (terminator c head ≡ Missing)
+Stands c (Whole head cells) = (terminator c head ≡ Some cells) × (cells ≤ capacity c.columns head.kind)
+Stands c (Torn head) = terminator c head ≡ None
 Stands c DarkRow = Unit {0}
 
 -- a row that is not dark
@@ -66,33 +63,29 @@ IsLit (Torn head) = Unit {0}
 IsLit DarkRow = ⊥
 
 module _ (c : Chain) where
-  stands_from : (head : Head) → head.start < places → Stands c (row_from c head)
+  stands_from : (head : Head) → Stands c (row_from c head)
   unfolding row_from terminator
-  stands_from head placed = go (terminator c head) refl
+  stands_from head = go (terminator c head) refl
     where
-      room : ℕ
-      room = capacity c.columns head.kind
-
-      go : (t : Terminator) → first_ff c.screen head.start 0 (capacity c.columns head.kind + 1) ≡ t → Stands c (ended head t)
-      go (After n) e =
-          (placed, (e, omega (arith, found_within c.screen head.start 0 (capacity c.columns head.kind + 1) e)))
-      go Missing e = (placed, e)
+      go : (t : Option ℕ) → first_ff c.screen head.start 0 (capacity c.columns head.kind + 1) ≡ t → Stands c (ended head t)
+      go (Some n) e = (e, omega (arith, found_within c.screen head.start 0 (capacity c.columns head.kind + 1) e))
+      go None e = e
 
   pub stands : (row : ℕ) → Stands c (row_at c row)
-  stands row = subst (Stands c) (ahead_leads c row) (go (ahead_of c row) (ahead_placed c row))
+  stands row = subst (Stands c) (ahead_leads c row) (go (ahead_of c row))
     where
-      go : (ahead : Ahead) → PlacedAhead ahead → Stands c (row_ahead c ahead)
-      go (RowAhead head) placed = stands_from head placed
-      go DarkAhead placed = tt
+      go : (ahead : Option Head) → Stands c (row_ahead c ahead)
+      go (Some head) = stands_from head
+      go None = tt
 
   -- a row that the chain leads to is not dark
   lit_from : (head : Head) → IsLit (row_from c head)
   unfolding row_from
   lit_from head = go (terminator c head)
     where
-      go : (t : Terminator) → IsLit (ended head t)
-      go (After n) = tt
-      go Missing = tt
+      go : (t : Option ℕ) → IsLit (ended head t)
+      go (Some n) = tt
+      go None = tt
 
   -- after a row that tore all are dark
   pub torn_then_dark : (f r : ℕ) → is_torn (row_at c f) ≡ true → f < r → row_at c r ≡ DarkRow
@@ -142,56 +135,46 @@ module _ (c : Chain) where
           (omega arith, rw (named, torn) refl)
       go DarkRow e earlier = let both = earlier e in (omega (arith, both.0), both.1)
 
-  -- what the chain comes to starts at a place
-  pub reached_placed : (row : ℕ) → Placed (reached c row)
-  unfolding reached
-  reached_placed row = go (row_at c row) (stands row)
-    where
-      go : (one : ARow) → Stands c one → Placed (comes_to (led_to c row) (row_that_tore c) one)
-      go (Whole head cells) s = s.0
-      go (Torn head) s = s.0
-      go DarkRow s = tt
-
   -- a row that the chain leads to is reached at its head
-  lit_row : (head : Head) (led : Led) → Row head led ≡ comes_to led (row_that_tore c) (row_from c head)
+  lit_row : (head : Head) (led : Option ℕ) → Ok (record { head = head; led = led }) ≡ comes_to led (row_that_tore c) (row_from c head)
   unfolding row_from
   lit_row head led = go (terminator c head)
     where
-      go : (t : Terminator) → Row head led ≡ comes_to led (row_that_tore c) (ended head t)
-      go (After n) = refl
-      go Missing = refl
+      go : (t : Option ℕ) → Ok (record { head = head; led = led }) ≡ comes_to led (row_that_tore c) (ended head t)
+      go (Some n) = refl
+      go None = refl
 
   -- the chain begins at row 0
-  pub reached_first : Row first Row0 ≡ reached c 0
+  pub reached_first : Ok (record { head = first; led = None }) ≡ reached c 0
   unfolding reached led_to row_at
-  reached_first = lit_row first Row0
+  reached_first = lit_row first None
 
   -- and goes on from a row to the row after it
   module _ (row : ℕ) (more : row < rows) where
     after_row :
-        (one : ARow) → row_at c row ≡ one → Stands c one → (head : Head) (led : Led)
-        → comes_to (led_to c row) (row_that_tore c) one ≡ Row head led → after c row head ≡ reached c (suc row)
+        (one : ARow) → row_at c row ≡ one → Stands c one → (found : Reached)
+        → comes_to (led_to c row) (row_that_tore c) one ≡ Ok found → after c row found.head ≡ reached c (suc row)
     unfolding reached led_to row_at next
-    after_row (Whole own cells) is s head led e =
-        let same : own ≡ head = cc in
-        rw (← same, s.1.0, is) (lit_row (link c.screen c.attribute (own.start + cells)) _)
-    after_row (Torn own) is s head led e =
-        let same : own ≡ head = cc in
-        rw (← same, s.1, is) (ap DarkReached (sym (the_torn_one row more (ap is_torn is))))
-    after_row DarkRow is s head led e = let z : ◌≡◌ {A = ℕ} 0 1 = cc in absurd (omega arith)
+    after_row (Whole own cells) is s found e =
+        let same : own ≡ found.head = head_same own _ found e in
+        rw (← same, s.0, is) (lit_row (link c.screen c.attribute (own.start + cells)) _)
+    after_row (Torn own) is s found e =
+        let same : own ≡ found.head = head_same own _ found e in
+        rw (← same, s, is) (ap Err (sym (the_torn_one row more (ap is_torn is))))
+    after_row DarkRow is s found e = let z : ◌≡◌ {A = ℕ} 0 1 = cc in absurd (omega arith)
 
-    pub reached_after : (head : Head) (led : Led) → reached c row ≡ Row head led → after c row head ≡ reached c (row + 1)
+    pub reached_after : (found : Reached) → reached c row ≡ Ok found → after c row found.head ≡ reached c (row + 1)
     unfolding reached
-    reached_after head led e = rw (add-one row) (after_row (row_at c row) refl (stands row) head led e)
+    reached_after found e = rw (add-one row) (after_row (row_at c row) refl (stands row) found e)
 
     -- after a dark row comes a dark one
-    pub reached_dark : (tore : ℕ) → reached c row ≡ DarkReached tore → DarkReached tore ≡ reached c (row + 1)
+    pub reached_dark : (tore : ℕ) → reached c row ≡ Err tore → Err tore ≡ reached c (row + 1)
     unfolding reached row_at next
     reached_dark tore e = rw (add-one row) (go (row_at c row) refl e)
       where
         go :
-            (one : ARow) → row_at c row ≡ one → comes_to (led_to c row) (row_that_tore c) one ≡ DarkReached tore
-            → DarkReached tore ≡ comes_to (led_to c (suc row)) (row_that_tore c) (next c (row_at c row))
+            (one : ARow) → row_at c row ≡ one → comes_to (led_to c row) (row_that_tore c) one ≡ Err tore
+            → Err tore ≡ comes_to (led_to c (suc row)) (row_that_tore c) (next c (row_at c row))
         go (Whole head cells) is h = let z : ◌≡◌ {A = ℕ} 0 1 = cc in absurd (omega arith)
         go (Torn head) is h = let z : ◌≡◌ {A = ℕ} 0 1 = cc in absurd (omega arith)
         go DarkRow is h = rw is (sym h)
@@ -199,31 +182,24 @@ module _ (c : Chain) where
 -- why a column shows what it shows, from what the chain comes to
 module _ (c : Chain) (row column : ℕ) where
   why_row :
-      (one : ARow) → Stands c one → (head : Head) (led : Led) → comes_to (led_to c row) (row_that_tore c) one ≡ Row head led
-      → in_row c.columns c.screen head led column ≡ why_in c (led_to c row) (row_that_tore c) column one
-  unfolding terminator
-  why_row (Whole own cells) s head led e =
-      let same : own ≡ head = cc in
-      let by : led_to c row ≡ led = cc in
-      rw (← same, ← by, s.1.0)
-  why_row (Torn own) s head led e =
-      let same : own ≡ head = cc in
-      let by : led_to c row ≡ led = cc in
-      rw (← same, ← by, s.1)
-  why_row DarkRow s head led e = let z : ◌≡◌ {A = ℕ} 0 1 = cc in absurd (omega arith)
+      (one : ARow) → Stands c one → (found : Reached) → comes_to (led_to c row) (row_that_tore c) one ≡ Ok found
+      → in_row c found column ≡ why_in c (led_to c row) (row_that_tore c) column one
+  why_row (Whole own cells) s found e = rw (← found_is own _ found e, s.0)
+  why_row (Torn own) s found e = rw (← found_is own _ found e, s)
+  why_row DarkRow s found e = let z : ◌≡◌ {A = ℕ} 0 1 = cc in absurd (omega arith)
 
   pub why_in_row :
-      (head : Head) (led : Led) → reached c row ≡ Row head led
-      → in_row c.columns c.screen head led column ≡ why c row column
+      (found : Reached) → reached c row ≡ Ok found
+      → in_row c found column ≡ why c row column
   unfolding reached why
-  why_in_row head led e = why_row (row_at c row) (stands c row) head led e
+  why_in_row found e = why_row (row_at c row) (stands c row) found e
 
-  pub why_dark : (tore : ℕ) → reached c row ≡ DarkReached tore → Dark tore ≡ why c row column
+  pub why_dark : (tore : ℕ) → reached c row ≡ Err tore → Dark tore ≡ why c row column
   unfolding reached why
   why_dark tore e = go (row_at c row) e
     where
       go :
-          (one : ARow) → comes_to (led_to c row) (row_that_tore c) one ≡ DarkReached tore
+          (one : ARow) → comes_to (led_to c row) (row_that_tore c) one ≡ Err tore
           → Dark tore ≡ why_in c (led_to c row) (row_that_tore c) column one
       go (Whole head cells) h = let z : ◌≡◌ {A = ℕ} 0 1 = cc in absurd (omega arith)
       go (Torn head) h = let z : ◌≡◌ {A = ℕ} 0 1 = cc in absurd (omega arith)
@@ -236,16 +212,8 @@ on_screen_lem row column e =
     (ltb-true row rows both.0, ltb-true column record_pairs both.1)
 
 -- an answer of the chain is no refusal
-pub why_accepted : (c : Chain) (row column : ℕ) → (told (why c row column)).refusal ≡ accepted
-unfolding why
-why_accepted c row column = go (row_at c row)
-  where
-    Accepted : Why → Type 0
-    Accepted answer = (told answer).refusal ≡ accepted
-
-    go : (one : ARow) → Accepted (why_in c (led_to c row) (row_that_tore c) column one)
-    go (Whole head cells) =
-        either Accepted (leb (capacity c.columns head.kind) column) _ _ (λ h. refl)
-        (λ h. either Accepted (ltb column cells) _ _ (λ g. refl) (λ g. refl))
-    go (Torn head) = either Accepted (leb (capacity c.columns head.kind) column) _ _ (λ h. refl) (λ h. refl)
-    go DarkRow = refl
+pub why_accepted : (answer : Why) → (told (Ok answer)).refusal ≡ accepted
+why_accepted (Cell place kind led) = refl
+why_accepted (Fill place led) = refl
+why_accepted (Past led) = refl
+why_accepted (Dark tore) = refl

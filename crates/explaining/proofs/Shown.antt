@@ -10,18 +10,15 @@ use borrow.Author.Tests.{lt-ltb, le-ltb, le-leb, lt-leb, ltb-true, ltb-false, le
 use Rattle.lent.proofs.Tests.{either}
 use Rattle.chain.specs.Chain.{Chain, Row as ARow, Whole, Torn, Dark as DarkRow, byte_at, capacity, terminator, ended, link, row_from, next, rows, row_at}
 use Rattle.chain.specs.declared.Head.{Head}
-use Rattle.chain.specs.declared.Terminator.{Terminator}
-use Rattle.chain.specs.declared.Terminator.TheVariants.{After, Missing}
 use Rattle.chain.proofs.Alike.{same_place}
 use Rattle.records.specs.Record.{cells_shown, head_of, record_of}
 use Rattle.records.proofs.Record.{ff_is_no_cell}
 use Rattle.picture.specs.Picture.{record_at}
 use Rattle.explaining.specs.Explain.{low_link, led_to, row_that_tore, cell_of, why_in, why}
 use Rattle.explaining.specs.Shown.{HasHead, IsLink, LedSo, Holds, ExactlyWhenTrue, pair_in, Shows, ShowsWhatItSays, IsFirstFf, NamesTheFirstFf, OneRowTore, led_in, LinkHolds}
-use Rattle.explaining.specs.declared.Led.{Led}
-use Rattle.explaining.specs.declared.Led.TheVariants.{Row0, Link}
 use Rattle.explaining.specs.declared.Why.{Why}
-use Rattle.explaining.specs.declared.Why.TheVariants.{Refused, Cell, Fill, Past, Dark}
+use Rattle.std.specs.Prelude.{Option, Some, None}
+use Rattle.explaining.specs.declared.Why.TheVariants.{Cell, Fill, Past, Dark}
 use Rattle.explaining.proofs.Laws.{found_ff, Stands, stands, IsLit, one_torn, the_torn_one, dark_names}
 use Rattle.explaining.proofs.Pairs.{shown_at, row_shows}
 
@@ -38,13 +35,13 @@ module _ (c : Chain) where
       go (Torn head) is = absurd (subst (λ (r : ARow). IsLit (next c r)) is lit)
       go DarkRow is = absurd (subst (λ (r : ARow). IsLit (next c r)) is lit)
 
-  led_only : (row : ℕ) (led : Led) → LedSo c row led → led ≡ led_to c row
+  led_only : (row : ℕ) (led : Option ℕ) → LedSo c row led → led ≡ led_to c row
   unfolding led_to
-  led_only row Row0 so = rw so
-  led_only row (Link place) so = rw (so.is_before, add-one so.before, so.whole, so.at)
+  led_only row None so = rw so
+  led_only row (Some place) so = rw (so.is_before, add-one so.before, so.whole, so.at)
 
   module _ (row column : ℕ) where
-    abbrev by : Led
+    abbrev by : Option ℕ
     by = led_to c row
 
     abbrev answer : ARow → Why
@@ -80,7 +77,6 @@ module _ (c : Chain) where
 
     -- an answer that holds is the one that is given
     only : (one : ARow) → row_at c row ≡ one → Stands c one → row < rows → (told : Why) → Holds c row column told → told ≡ answer one
-    only one is s more (Refused refusal) h = absurd h
     only one is s more (Cell place kind led) h = cell one (rw is at h.has) (rw is at h.among) s
       where
         by_led : led ≡ by
@@ -88,7 +84,7 @@ module _ (c : Chain) where
 
         cell : (one : ARow) → HasHead one h.head → column < cells_shown c one → Stands c one → Cell place kind led ≡ answer one
         cell (Whole own cells) has among s =
-            rw (lt-leb (capacity c.columns own.kind) column (omega (arith, s.1.1)), lt-ltb _ _ among, has, h.at, h.of_kind, by_led)
+            rw (lt-leb (capacity c.columns own.kind) column (omega (arith, s.1)), lt-ltb _ _ among, has, h.at, h.of_kind, by_led)
         cell (Torn own) has among s = rw (lt-leb _ _ among, has, h.at, h.of_kind, by_led)
         cell DarkRow has among s = absurd has
     only one is s more (Fill place led) h =
@@ -129,7 +125,7 @@ shows_what_it_says c row column wide under = go (row_at c row) refl (stands c ro
         → Shows c row column (why_in c (led_to c row) (row_that_tore c) column one)
     go (Whole head cells) is s e =
         either (Shows c row column) (leb (capacity c.columns head.kind) column) _ _
-        (λ h. e ∙ rw (is, le-ltb column cells (omega (arith, s.1.1, leb-true (capacity c.columns head.kind) column h))))
+        (λ h. e ∙ rw (is, le-ltb column cells (omega (arith, s.1, leb-true (capacity c.columns head.kind) column h))))
         (λ h.
         either (Shows c row column) (ltb column cells) _ _ (λ g. shown (Whole head cells) head is refl g e) (λ g. e ∙ rw (is, g)))
     go (Torn head) is s e =
@@ -152,7 +148,7 @@ names_the_first_ff c row column place led head more e has =
     let h = holds_as c row column more e in
     let own = h.head in
     let same : own ≡ head = subst (λ (r : ARow). HasHead r head) h.whole has in
-    let ends : terminator c own ≡ After h.cells = (subst (Stands c) h.whole (stands c row)).1.0 in
+    let ends : terminator c own ≡ Some h.cells = (subst (Stands c) h.whole (stands c row)).0 in
     let first : IsFirstFf c own place =
     record {
       cells = h.cells;
@@ -167,14 +163,13 @@ own_head : (c : Chain) (own head : Head) → HasHead (row_from c own) head → o
 unfolding row_from
 own_head c own head = go (terminator c own)
   where
-    go : (t : Terminator) → HasHead (ended own t) head → own ≡ head
-    go (After cells) has = has
-    go Missing has = has
+    go : (t : Option ℕ) → HasHead (ended own t) head → own ≡ head
+    go (Some cells) has = has
+    go None has = has
 
 module _ (c : Chain) (row column place : ℕ) where
   -- the link that an answer names is one
-  linked : (told : Why) → Holds c row column told → led_in told ≡ Link place → IsLink c row place
-  linked (Refused refusal) h e = absurd h
+  linked : (told : Why) → Holds c row column told → led_in told ≡ Some place → IsLink c row place
   linked (Cell at kind led) h e = subst (LedSo c row) e h.led_so
   linked (Fill at led) h e = subst (LedSo c row) e h.led_so
   linked (Past led) h e = subst (LedSo c row) e h.led_so

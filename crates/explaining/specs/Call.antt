@@ -1,14 +1,14 @@
 -- Document 02, ticket 6: the call.
-use Rattle.std.specs.Prelude.{ℕ, List, [], ◌∷◌, Bool, not, cond, ◌&&◌, length, eqb, ltb}
+use Rattle.std.specs.Prelude.{ℕ, List, [], ◌∷◌, Bool, not, cond, ◌&&◌, length, eqb, ltb, Result, Ok, Err}
 use Rattle.lent.specs.Lengths.{screen_bytes, attribute_bytes}
-use Rattle.lent.specs.Refusals.{refuses, length_refused, place_refused, refusal_of}
+use Rattle.lent.specs.Refusals.{refuses, length_refused, place_refused, number_of, refusal_of}
+use Rattle.lent.specs.declared.refusals.Refusal.{Refusal}
 use Rattle.machine.specs.declared.Machine.{Machine}
 use Rattle.chain.specs.Chain.{rows}
 use Rattle.records.specs.Record.{record_pairs}
 use Rattle.picture.specs.Draw.{chain_of}
 use Rattle.explaining.specs.Explain.{why}
 use Rattle.explaining.specs.declared.Why.{Why}
-use Rattle.explaining.specs.declared.Why.TheVariants.{Refused}
 
 -- "Refusals: 5 also for a column over 131", beside a row over 24
 unfoldable pub on_screen : (row column : ℕ) → Bool
@@ -22,7 +22,12 @@ refusal_explain screen attribute row column =
     ∷ (place_refused, not (on_screen row column))
     ∷ [])
 
-abbrev pub explain : Machine → (screen attribute : List ℕ) → (row column : ℕ) → Why
+-- an answer, or the refusal's number
+abbrev pub in_numbers : Result Why Refusal → Result Why ℕ
+in_numbers (Ok answer) = Ok answer
+in_numbers (Err refusal) = Err (number_of refusal)
+
+abbrev pub explain : Machine → (screen attribute : List ℕ) → (row column : ℕ) → Result Why ℕ
 explain m screen attribute row column =
     let refusal = refusal_explain screen attribute row column in
-    cond (refuses refusal) (Refused refusal) (why (chain_of m screen attribute) row column)
+    cond (refuses refusal) (Err refusal) (Ok (why (chain_of m screen attribute) row column))

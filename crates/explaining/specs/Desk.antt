@@ -1,6 +1,6 @@
 -- Document 02, ticket 6: "where no earlier row reads the named cell place, storing there a byte that differs and is not
 -- FF changes that cell."
-use Rattle.std.specs.Prelude.{ℕ, ◌+◌, ◌%◌, ◌≤◌, ◌<◌, ◌≡◌, List, [], ◌∷◌, Bool, false, cond, ◌&&◌, length, eqb, ltb}
+use Rattle.std.specs.Prelude.{ℕ, ◌+◌, ◌%◌, ◌≤◌, ◌<◌, ◌≡◌, List, [], ◌∷◌, Bool, false, cond, ◌&&◌, length, eqb, ltb, Option, Some}
 use Rattle.lent.specs.Lengths.{screen_bytes}
 use Rattle.memories.specs.declared.view8088.Seen.TheVariants.{Screen}
 use Rattle.chain.specs.Chain.{Chain, Row as ARow, Whole, Torn, Dark as DarkRow, places, byte_at, rows, row_at}
@@ -11,7 +11,6 @@ use Rattle.readers.specs.Readers.{among, row_reads}
 use Rattle.readers.specs.Stored.{chain_stored}
 use Rattle.explaining.specs.Explain.{why}
 use Rattle.explaining.specs.Shown.{pair_in}
-use Rattle.explaining.specs.declared.Led.{Led}
 use Rattle.explaining.specs.declared.Why.TheVariants.{Cell}
 
 -- a byte is stored at the place of a cell: it differs from the one that stands there, and is not FF
@@ -20,7 +19,7 @@ pub record Told (c : Chain) (row column place byte : ℕ) : Type 0 where
   pub long : length c.screen ≡ screen_bytes
   pub one_of_them : row < rows
   pub kind : ℕ
-  pub led : Led
+  pub led : Option ℕ
   pub is_cell : why c row column ≡ Cell place kind led
   pub not_ff : byte ≡ 0xFF → ⊥
   pub differs : byte ≡ byte_at c.screen place → ⊥
@@ -35,8 +34,8 @@ pub record Keeps (c d : Chain) (row column place byte : ℕ) : Type 0 where
 abbrev pub DeskPromise : Type 0
 DeskPromise =
     (c : Chain) (row column place byte : ℕ) (shared : List ℕ) → Told c row column place byte
-    → ((earlier : ℕ) → earlier < row → row_reads c (Screen place) (row_at c earlier) ≡ false)
-    → Keeps c (chain_stored c (Screen place) byte shared) row column place byte
+    → ((earlier : ℕ) → earlier < row → row_reads c (Some (Screen place)) (row_at c earlier) ≡ false)
+    → Keeps c (chain_stored c (Some (Screen place)) byte shared) row column place byte
 
 -- the two places of a row's link
 unfoldable pub link_read : ARow → List ℕ
@@ -66,4 +65,4 @@ abbrev pub OtherRows : Type 0
 OtherRows =
     (c : Chain) (row column place byte other : ℕ) (shared : List ℕ) → Told c row column place byte
     → ((ahead : ℕ) → ahead < other → among place (link_read (row_at c ahead)) ≡ false)
-    → ShowsItToo c (chain_stored c (Screen place) byte shared) other place byte
+    → ShowsItToo c (chain_stored c (Some (Screen place)) byte shared) other place byte

@@ -1,15 +1,13 @@
 -- Document 02, ticket 6: "Each is given exactly when true under the chain's rules". What each answer says of the rows,
 -- in the words of the rules alone; and, of the records, what the fresh picture shows where it is given.
-use Rattle.std.specs.Prelude.{ℕ, ◌+◌, ◌*◌, ◌%◌, ◌≤◌, ◌<◌, ◌≡◌, List, [], ◌∷◌, true, get_or, take, drop}
+use Rattle.std.specs.Prelude.{ℕ, ◌+◌, ◌*◌, ◌%◌, ◌≤◌, ◌<◌, ◌≡◌, List, [], ◌∷◌, true, get_or, take, drop, Option, Some, None}
 use Rattle.chain.specs.Chain.{Chain, Row as ARow, Whole, Torn, Dark as DarkRow, places, byte_at, capacity, rows, row_at}
 use Rattle.chain.specs.declared.Head.{Head}
 use Rattle.records.specs.Record.{record_pairs, kind_at, head_bytes, cells_shown}
 use Rattle.picture.specs.Picture.{record_at}
 use Rattle.explaining.specs.Explain.{is_torn, why}
-use Rattle.explaining.specs.declared.Led.{Led}
-use Rattle.explaining.specs.declared.Led.TheVariants.{Row0, Link}
 use Rattle.explaining.specs.declared.Why.{Why}
-use Rattle.explaining.specs.declared.Why.TheVariants.{Refused, Cell, Fill, Past, Dark}
+use Rattle.explaining.specs.declared.Why.TheVariants.{Cell, Fill, Past, Dark}
 
 -- a row that is not dark has a head: where it starts, and its kind
 abbrev pub HasHead : ARow → Head → Type 0
@@ -27,12 +25,12 @@ pub record IsLink (c : Chain) (row place : ℕ) : Type 0 where
   pub at : place ≡ (head.start + cells + 1) % places
 
 -- "or that it is row 0"
-abbrev pub LedSo : Chain → (row : ℕ) → Led → Type 0
-LedSo c row Row0 = row ≡ 0
-LedSo c row (Link place) = IsLink c row place
+abbrev pub LedSo : Chain → (row : ℕ) → Option ℕ → Type 0
+LedSo c row None = row ≡ 0
+LedSo c row (Some place) = IsLink c row place
 
 -- the column is one of the cells that the row shows, this place holds it, and this is the row's kind
-pub record IsCell (c : Chain) (row column place kind : ℕ) (led : Led) : Type 0 where
+pub record IsCell (c : Chain) (row column place kind : ℕ) (led : Option ℕ) : Type 0 where
   pub head : Head
   pub has : HasHead (row_at c row) head
   pub among : column < cells_shown c (row_at c row)
@@ -41,7 +39,7 @@ pub record IsCell (c : Chain) (row column place kind : ℕ) (led : Led) : Type 0
   pub led_so : LedSo c row led
 
 -- the row ended at or ahead of the column, at the FF at this place, and has room for the column
-pub record IsFill (c : Chain) (row column place : ℕ) (led : Led) : Type 0 where
+pub record IsFill (c : Chain) (row column place : ℕ) (led : Option ℕ) : Type 0 where
   pub head : Head
   pub cells : ℕ
   pub whole : row_at c row ≡ Whole head cells
@@ -51,7 +49,7 @@ pub record IsFill (c : Chain) (row column place : ℕ) (led : Led) : Type 0 wher
   pub led_so : LedSo c row led
 
 -- the row is not dark, and has no room for the column
-pub record IsPast (c : Chain) (row column : ℕ) (led : Led) : Type 0 where
+pub record IsPast (c : Chain) (row column : ℕ) (led : Option ℕ) : Type 0 where
   pub head : Head
   pub has : HasHead (row_at c row) head
   pub no_room : capacity c.columns head.kind ≤ column
@@ -65,7 +63,6 @@ pub record IsDark (c : Chain) (row tore : ℕ) : Type 0 where
 
 -- what an answer says holds
 abbrev pub Holds : Chain → (row column : ℕ) → Why → Type 0
-Holds c row column (Refused refusal) = ⊥
 Holds c row column (Cell place kind led) = IsCell c row column place kind led
 Holds c row column (Fill place led) = IsFill c row column place led
 Holds c row column (Past led) = IsPast c row column led
@@ -85,7 +82,6 @@ pair_in bytes column = take 2 (drop (head_bytes + 2 * column) bytes)
 -- what the record of the row shows: of a cell, the byte at the named place and the attribute beside it, and the kind;
 -- otherwise "20, 0E"
 abbrev pub Shows : Chain → (row column : ℕ) → Why → Type 0
-Shows c row column (Refused refusal) = Unit {0}
 Shows c row column (Cell place kind led) =
     (pair_in (record_at c row) column ≡ byte_at c.screen place ∷ byte_at c.attribute place % 16 ∷ [])
     × (get_or (record_at c row) kind_at 0 ≡ kind)
@@ -107,7 +103,7 @@ pub record IsFirstFf (c : Chain) (head : Head) (place : ℕ) : Type 0 where
 
 abbrev pub NamesTheFirstFf : Type 0
 NamesTheFirstFf =
-    (c : Chain) (row column place : ℕ) (led : Led) (head : Head) → row < rows → why c row column ≡ Fill place led
+    (c : Chain) (row column place : ℕ) (led : Option ℕ) (head : Head) → row < rows → why c row column ≡ Fill place led
     → HasHead (row_at c row) head → IsFirstFf c head place
 
 -- "the row that tore": no other row is torn
@@ -117,16 +113,15 @@ OneRowTore =
     → (is_torn (row_at c tore) ≡ true) × ((other : ℕ) → is_torn (row_at c other) ≡ true → other ≡ tore)
 
 -- what an answer says of the link; a dark row has none
-abbrev pub led_in : Why → Led
-led_in (Refused refusal) = Row0
+abbrev pub led_in : Why → Option ℕ
 led_in (Cell place kind led) = led
 led_in (Fill place led) = led
 led_in (Past led) = led
-led_in (Dark tore) = Row0
+led_in (Dark tore) = None
 
 -- the named place holds the low byte of the row's start, and beside it stands the row's kind, in "its low three bits"
 abbrev pub LinkHolds : Type 0
 LinkHolds =
-    (c : Chain) (row column place : ℕ) (head : Head) → row < rows → led_in (why c row column) ≡ Link place
+    (c : Chain) (row column place : ℕ) (head : Head) → row < rows → led_in (why c row column) ≡ Some place
     → HasHead (row_at c row) head → byte_at c.screen place < 256
     → (byte_at c.screen place ≡ head.start % 256) × (byte_at c.attribute place % 8 ≡ head.kind)

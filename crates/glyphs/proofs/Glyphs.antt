@@ -2,7 +2,7 @@
 use Prim.Native.Nat.{ℕ, ◌*◌, ◌≤◌, ◌<◌}
 use mathlib.Core.Path.{◌≡◌, refl}
 use mathlib.Core.List.{List}
-use mathlib.Core.Bool.{Bool, true, false, not, cond}
+use mathlib.Core.Bool.{Bool, true, false, cond}
 use native.Mathlib.Omega.{arith}
 use lib.ListN.{length, take, drop, length-drop}
 use lib.Seq.{length-take-le, get_or-take, get_or-drop}
@@ -10,7 +10,7 @@ use lib.Dec.{eqb}
 use borrow.Author.Tests.{eqb-true, eq-eqb}
 use Rattle.lent.specs.Lengths.{glyph_bytes}
 use Rattle.lent.specs.Refusals.{accepted, refuses, length_refused}
-use Rattle.glyphs.specs.Glyphs.{code_bytes, glyph_byte, glyph_part, part_start, part_refusal, TellsItsRefusal, HoldsTheScans}
+use Rattle.glyphs.specs.Glyphs.{code_bytes, glyph_part, part_start, part_refusal, TellsItsRefusal, HoldsTheScans}
 
 pub sixteen :
     (table : List ℕ) (code : ℕ) → length table ≡ glyph_bytes → code < 256
@@ -37,12 +37,12 @@ pub starts_where :
 unfolding part_start
 starts_where table code h = rw (tells_its_refusal table code h) (go (eqb (length table) glyph_bytes))
   where
-    go : (b : Bool) → cond (not b) 0 (code * code_bytes) ≡ cond (refuses (cond b accepted length_refused)) 0 (code * code_bytes)
+    go : (b : Bool) → cond b (code * code_bytes) 0 ≡ cond (refuses (cond b accepted length_refused)) 0 (code * code_bytes)
     go true = refl
     go false = refl
 
 pub holds_the_scans : HoldsTheScans
-unfolding glyph_part glyph_byte
+unfolding glyph_part
 holds_the_scans table code address long h =
     rw (
       eq-eqb _ _ long,

@@ -2,10 +2,10 @@
 use Prim.Native.Nat.{zero, suc}
 use mathlib.Core.Path.{refl}
 use native.Mathlib.Omega.{arith}
-use Rattle.glyphs.specs.Scans.{scan_addresses, scan_address, AsListed}
+use Rattle.glyphs.specs.Scans.{scan_addresses, AsListed}
 
 pub as_listed : AsListed
-unfolding scan_address scan_addresses
+unfolding scan_addresses
 as_listed zero from to = absurd (omega arith)
 as_listed (suc zero) from to = refl
 as_listed (suc (suc zero)) from to = refl

@@ -2,66 +2,92 @@
 // "Dots".
 #![tactic(auto)]
 
-ghost use Rattle.std.specs.Prelude.{◌≤◌, ◌<◌, ◌≡◌, length};
-ghost use Rattle.lent.specs.Lengths.{glyph_bytes};
-ghost use Rattle.glyphs.specs.Glyphs.{code_bytes, glyph_byte, slice, part_of, part_refusal};
-ghost use Rattle.glyphs.specs.Scans.{first_scan, last_scan, scan_address, glyph_scan};
+ghost use Rattle.std.specs.Prelude.{◌≤◌, ◌<◌, ◌≡◌, ℕ};
+ghost use Rattle.glyphs.specs.Glyphs.{code_bytes, glyph_byte, told_part, part_answer};
+ghost use Rattle.glyphs.specs.Scans.{first_scan, last_scan, scan_address, glyph_scan, scan_of};
+
+use lent::Refusal;
+use std::marker::Model;
 
 // A code has so many bytes in the table.
 pub const CODE_BYTES: usize = 16;
 
-pub const FIRST_SCAN: usize = 1;
+// A glyph table, all codes of it.
+pub type Table = [u8; lent::GLYPH_BYTES];
+
+const FIRST_SCAN: usize = 1;
 
 pub const LAST_SCAN: usize = 10;
 
-// The sixteen scan bytes of a code, or no bytes where the table's length is wrong.
-pub fn part(table: &[u8], code: u8) -> &[u8]
-    ensures { slice result.ref_ptr result.now ≡ part_of table.entry.ref_ptr table.now code }
+// A scan, by its number of 1 to 10.
+#[derive(Clone, Copy)]
+pub struct Scan {
+    number: usize,
+}
+
+impl Model for Scan {
+    ghost Value = { ℕ };
+
+    ghost view = { λ s. s.number };
+
+    ghost invariant = { λ s. (first_scan ≤ s.number) × (s.number ≤ last_scan) };
+
+    ghost inverse = { λ n. record { number = n } };
+}
+
+impl Scan {
+    // The scan with a number, if there is one.
+    pub fn new(number: usize) -> Option<Scan>
+        ensures { result ≡ scan_of number }
+    {
+        match number {
+            FIRST_SCAN..=LAST_SCAN => Some(Scan { number }),
+            _ => None,
+        }
+    }
+
+    pub fn number(self) -> usize
+        ensures { result ≡ self }
+    {
+        self.number
+    }
+
+    // The scan address. Scan 1 stands at the end of a code's sixteen bytes, scan 2 at their start.
+    pub fn address(self) -> usize
+        ensures value { result ≡ scan_address self }
+        ensures of_a_code { result < code_bytes }
+    {
+        (self.number + 14) % 16
+    }
+
+    // The scan of a glyph that a row of a kind shows at this scan of the screen.
+    pub fn of_glyph(self, kind: u8) -> Scan
+        ensures { result ≡ glyph_scan kind self }
+    {
+        let half = (self.number + 1) / 2;
+        match kind % 4 {
+            chain::TOP_HALF => Scan { number: half },
+            chain::BOTTOM_HALF => Scan { number: half + 5 },
+            _ => self,
+        }
+    }
+}
+
+// The sixteen scan bytes of a code, where they stand in the table. Of what `lend` gives it is not said where that stands.
+#[tactic(auto, unfolding(crate::specs::Glyphs::glyph_part, crate::specs::Glyphs::part_start, crate::specs::Glyphs::part_refusal))]
+pub fn part(table: &[u8], code: u8) -> Result<&[u8], Refusal>
+    ensures { told_part result ≡ part_answer table.entry.ref_ptr table.now code }
 {
     if table.len() != lent::GLYPH_BYTES {
-        return &table[0..0];
+        return Err(Refusal::Length);
     }
     let at = code as usize * CODE_BYTES;
-    &table[at..at + CODE_BYTES]
+    Ok(&table[at..at + CODE_BYTES])
 }
 
-// The number of refusal that a part tells.
-pub fn refusal(part: &[u8]) -> u8
-    ensures { result ≡ part_refusal part.now }
+// The glyph byte of a code at a scan.
+pub fn byte(table: &Table, code: u8, scan: Scan) -> u8
+    ensures { result ≡ glyph_byte table.now code (scan_address scan) }
 {
-    if part.len() == 0 {
-        return lent::LENGTH;
-    }
-    lent::ACCEPTED
-}
-
-// The glyph byte of a code at a scan address.
-pub fn byte(table: &[u8], code: u8, address: usize) -> u8
-    requires table_len { length table.now ≡ glyph_bytes }
-    requires address_lt_code_bytes { address < code_bytes }
-    ensures { result ≡ glyph_byte table.now code address }
-{
-    table[code as usize * CODE_BYTES + address]
-}
-
-// The scan address of a scan number. Scan 1 stands at the end of a code's sixteen bytes, scan 2 at their start.
-pub fn scan_address(scan: usize) -> usize
-    requires { (first_scan ≤ scan) × (scan ≤ last_scan) }
-    ensures value { result ≡ scan_address scan }
-    ensures upper_bound { result < code_bytes }
-{
-    (scan + 14) % 16
-}
-
-// The scan of a glyph that a row of a kind shows at a scan of the screen.
-pub fn glyph_scan(kind: u8, scan: usize) -> usize
-    requires { (first_scan ≤ scan) × (scan ≤ last_scan) }
-    ensures value { result ≡ glyph_scan kind scan }
-    ensures lower_bound { (first_scan ≤ result) × (result ≤ last_scan) }
-{
-    match kind % 4 {
-        chain::TOP_HALF => (scan + 1) / 2,
-        chain::BOTTOM_HALF => (scan + 1) / 2 + 5,
-        _ => scan,
-    }
+    table[code as usize * CODE_BYTES + scan.address()]
 }

@@ -6,6 +6,7 @@ use mathlib.Core.Bool.{Bool, true, false, cond}
 use native.Mathlib.Omega.{arith}
 use lib.Dec.{ltb}
 use borrow.Author.Tests.{ltb-true, ltb-false}
+use Rattle.std.specs.Prelude.{Option}
 use Rattle.lent.specs.Lengths.{index_bytes}
 use Rattle.lent.specs.Refusals.{refuses}
 use Rattle.machine.specs.declared.Machine.{Machine}
@@ -24,7 +25,7 @@ use Rattle.index.specs.Meaning.{EntriesAreFirst, LeavesAheadOfNamed, MarksTheCha
 use Rattle.index.proofs.Index.{entry_at}
 use Rattle.index.proofs.Outcome.{refused_outcome, mended_outcome, accepts}
 
-module _ (c : Chain) (seen : Seen) where
+module _ (c : Chain) (seen : Option Seen) where
   abbrev reads : ℕ → Bool
   reads row = row_reads c seen (row_at c row)
 

@@ -1,32 +1,29 @@
 -- The store's outcome: what the lengths tell, and what an accepted and a refused store leave.
-use Prim.Native.Nat.{ℕ, ◌≤◌, ◌<◌}
+use Prim.Native.Nat.{ℕ, ◌<◌}
 use mathlib.Core.Path.{◌≡◌, refl, subst, sym, ap, ◌∙◌}
 use mathlib.Core.List.{List}
 use mathlib.Core.Bool.{Bool, true, false, cond, and-true, and-eq-true_iff}
-use native.Mathlib.Omega.{arith}
-use lib.ListN.{length, length-set}
+use lib.ListN.{length}
 use lib.Dec.{ltb, eqb}
-use borrow.Author.Tests.{eq-eqb, eqb-true, lt-ltb, le-ltb}
-use Rattle.lent.specs.Lengths.{screen_bytes, attribute_bytes, picture_bytes, index_bytes}
+use borrow.Author.Tests.{eq-eqb, eqb-true, lt-ltb, ltb-true}
+use Rattle.std.specs.Prelude.{Option, Some, None}
+use Rattle.std.specs.Bool.{then_some}
+use Rattle.lent.specs.Lengths.{shared_bytes, screen_bytes, attribute_bytes, picture_bytes, index_bytes}
 use Rattle.lent.specs.Refusals.{accepted, refuses}
-use Rattle.lent.proofs.Tests.{either, three_equal}
+use Rattle.lent.proofs.Tests.{either}
 use Rattle.machine.specs.declared.Machine.{Machine}
-use Rattle.memories.specs.View8088.{seen_8088, refused_access, Stored8088, store_seen}
+use Rattle.memories.specs.View8088.{seen_8088, refused_access, Stored8088, stored_8088, store_seen}
 use Rattle.memories.specs.declared.view8088.Seen.{Seen}
-use Rattle.memories.specs.declared.view8088.Seen.TheVariants.{Shared, Screen, Attribute, Nowhere}
-use Rattle.memories.proofs.Laws.{lent_8088, accepted_right}
+use Rattle.memories.proofs.Laws.{accepted_right}
 use Rattle.chain.specs.Chain.{Chain, rows}
-use Rattle.chain.specs.declared.Ahead.TheVariants.{Dark}
 use Rattle.picture.specs.Draw.{chain_of}
-use Rattle.picture.proofs.Laws.{columns_fit}
 use Rattle.mending.specs.Mending.{mended, marks_of}
 use Rattle.mending.specs.Store.{lengths_with_picture, refusal_with_picture}
-use Rattle.mending.proofs.Outcome.{accepts as picture_accepts}
-use Rattle.mending.proofs.Walk.{mend_begins, mend_ends}
-use Rattle.index.specs.Index.{entries, lengths_index}
-use Rattle.index.specs.Store.{entry_in, first_in, renewed_entry, renewed, lengths_with_index, StoredWithIndex, stored_with_index, refusal_with_index, refuse_with_index, mend_with_index, store_with_index}
-use Rattle.index.specs.Inner.{StoredNamed, stored_named, store_named}
-use Rattle.index.specs.declared.Named.{Named}
+use Rattle.mending.proofs.Outcome.{unchanged, accepts as picture_accepts, goes_on as goes_on_with_picture}
+use Rattle.mending.proofs.Walk.{none_mended}
+use Rattle.index.specs.Index.{entries}
+use Rattle.index.specs.Store.{entry_in, first_in, renewed_entry, renewed, lengths_with_index, stored_with_index, refusal_with_index, refuse_with_index, mend_with_index, store_with_index}
+use Rattle.index.specs.Inner.{row_named}
 use Rattle.index.proofs.Index.{entries_length}
 
 -- the lengths are those of the list where the test holds
@@ -37,11 +34,24 @@ unfolding lengths_with_index
 lent_with_index shared screen attribute picture index =
     (and-eq-true_iff (lengths_with_picture shared screen attribute picture) (eqb index index_bytes)).0
 
-pub lent_index :
-    {screen attribute index : ℕ} → lengths_index screen attribute index ≡ true
-    → (screen ≡ screen_bytes) × ((attribute ≡ attribute_bytes) × (index ≡ index_bytes))
-unfolding lengths_index
-lent_index {screen} {attribute} {index} = three_equal screen screen_bytes attribute attribute_bytes index index_bytes
+-- the row that an index names, or that it names none
+module _ (index : List ℕ) (seen : Option Seen) where
+  abbrev entry : ℕ
+  entry = entry_in index seen
+
+  pub names_none : None ≡ row_named index seen → first_in index seen ≡ rows
+  names_none e = go (ltb entry rows) e
+    where
+      go : (b : Bool) → None ≡ then_some b entry → cond b entry rows ≡ rows
+      go true e = absurd cc
+      go false e = refl
+
+  pub names_one : (row : ℕ) → Some row ≡ row_named index seen → (first_in index seen ≡ row) × (row < rows)
+  names_one row e = go (ltb entry rows) refl e
+    where
+      go : (b : Bool) → ltb entry rows ≡ b → Some row ≡ then_some b entry → (cond b entry rows ≡ row) × (row < rows)
+      go true h e = let is : row ≡ entry = cc in (sym is, rw is (ltb-true entry rows h))
+      go false h e = absurd cc
 
 -- a renewed index is as long as it was
 pub renewed_sized :
@@ -83,93 +93,64 @@ module _ (m : Machine) (shared screen attribute picture index : List ℕ) (addre
   unfolding lengths_with_index
   refused_as_without long = rw (eq-eqb (length index) index_bytes long, and-true)
 
-  abbrev stored : Stored8088
-  stored = store_seen (seen_8088 address) shared screen attribute byte
+  -- a store with memories of the right lengths is accepted as its access is
+  pub goes_on :
+      length shared ≡ shared_bytes → length screen ≡ screen_bytes → length attribute ≡ attribute_bytes
+      → length picture ≡ picture_bytes → length index ≡ index_bytes → accepted ≡ refused_access m true address
+      → refuses refusal ≡ false
+  goes_on a b d e f h = rw (refused_as_without f) (goes_on_with_picture m shared screen attribute picture address byte a b d e h)
 
-  is_row : {entry : ℕ} → entry ≡ entry_in index (seen_8088 address) → first_in index (seen_8088 address) ≡ cond (ltb entry rows) entry rows
-  is_row e = ap (λ (one : ℕ). cond (ltb one rows) one rows) (sym e)
+  module _
+      (seen : Option Seen)
+      {shared' screen' attribute' : List ℕ}
+      (on : refuses refusal ≡ false)
+      (sees : seen ≡ seen_8088 address)
+      (stored : stored_8088 accepted shared' screen' attribute' ≡ store_seen seen shared screen attribute byte) where
+    left :
+        (marks : ℕ) (picture' index' : List ℕ)
+        → stored_with_index (record { refusal = accepted; marks = marks }) shared' screen' attribute' picture' index'
+        ≡ (let after = store_seen (seen_8088 address) shared screen attribute byte in
+        stored_with_index (record { refusal = accepted; marks = marks }) after.shared after.screen after.attribute picture' index')
+    left marks picture' index' =
+        rw (
+          ap (λ (s : Stored8088). s.shared) stored,
+          ap (λ (s : Stored8088). s.screen) stored,
+          ap (λ (s : Stored8088). s.attribute) stored,
+          sees,
+        )
+        refl
 
-  abbrev left : (marks : ℕ) → (picture' index' : List ℕ) → StoredWithIndex
-  left marks picture' index' =
-      stored_with_index (record { refusal = accepted; marks = marks }) stored.shared stored.screen stored.attribute picture' index'
-
-  -- no row is named
-  none_named :
-      {entry : ℕ} → refuses refusal ≡ false → entry ≡ entry_in index (seen_8088 address) → rows ≤ entry
-      → left 0 picture index ≡ store_with_index m shared screen attribute picture index address byte
-  none_named {entry} goes_on is over =
-      let c : Chain = chain_of m stored.screen stored.attribute in
-      let long = (picture_accepts m shared screen attribute picture address byte (accepts goes_on).1).0 in
-      let none : first_in index (seen_8088 address) ≡ rows = is_row is ∙ rw (le-ltb entry rows over) in
-      let begun = mend_begins c rows picture (columns_fit m) long Dark (omega arith) (λ h. absurd (omega arith)) in
-      let stays = mend_ends begun (omega arith) in
-      ap (λ (marks : ℕ). left marks picture index) stays.0
-      ∙ ap (λ (new : List ℕ). left (marks_of picture (mended c rows picture)) new index) stays.1
-      ∙ sym (mended_outcome goes_on ∙ rw none)
-
-  -- a row is named
-  one_named :
-      {entry : ℕ} → refuses refusal ≡ false → entry ≡ entry_in index (seen_8088 address) → entry < rows
-      → let after = chain_of m stored.screen stored.attribute in
-      left (marks_of picture (mended after entry picture)) (mended after entry picture) (entries (renewed_entry after entry index) index_bytes)
-      ≡ store_with_index m shared screen attribute picture index address byte
-  one_named {entry} goes_on is under =
-      let one : first_in index (seen_8088 address) ≡ entry = is_row is ∙ rw (lt-ltb entry rows under) in
-      sym (mended_outcome goes_on ∙ rw (one, lt-ltb entry rows under))
-
-  -- What is known after the first step: with no row all is done, and with one the store comes to what its definition says
-  -- as soon as picture and index are mended from that row
-  pub record Names (named : Named) (shared' screen' attribute' : List ℕ) : Type 0 where
-    pub none :
-        rows ≤ named.first
-        → stored_with_index (record { refusal = named.refusal; marks = 0 }) shared' screen' attribute' picture index
+    -- no row is named
+    pub none_named :
+        None ≡ row_named index seen
+        → stored_with_index (record { refusal = accepted; marks = 0 }) shared' screen' attribute' picture index
         ≡ store_with_index m shared screen attribute picture index address byte
-    pub lengths :
-        named.first < rows
-        → (length screen' ≡ screen_bytes)
-        × ((length attribute' ≡ attribute_bytes) × ((length picture ≡ picture_bytes) × (length index ≡ index_bytes)))
-    pub one :
-        named.first < rows → {marks : ℕ} {picture' index' : List ℕ}
-        → let after = chain_of m screen' attribute' in
-        (marks ≡ marks_of picture (mended after named.first picture))
-        × ((picture' ≡ mended after named.first picture)
-        × (index' ≡ entries (renewed_entry after named.first index) index_bytes))
+    none_named none =
+        let after = store_seen (seen_8088 address) shared screen attribute byte in
+        let c : Chain = chain_of m after.screen after.attribute in
+        let long = (picture_accepts m shared screen attribute picture address byte (accepts on).1).0 in
+        let first : first_in index (seen_8088 address) ≡ rows = names_none index (seen_8088 address) (rw sees at none) in
+        left 0 picture index ∙ sym (mended_outcome on ∙ rw (first, none_mended c picture long, unchanged picture))
+
+    -- a row is named
+    pub one_named :
+        (row : ℕ) {marks : ℕ} {picture' index' : List ℕ} {after : Chain} → Some row ≡ row_named index seen
+        → after ≡ chain_of m screen' attribute' → marks ≡ marks_of picture (mended after row picture)
+        → picture' ≡ mended after row picture → index' ≡ entries (renewed_entry after row index) index_bytes
         → stored_with_index (record { refusal = accepted; marks = marks }) shared' screen' attribute' picture' index'
         ≡ store_with_index m shared screen attribute picture index address byte
-
-  accepted_names : refuses refusal ≡ false → Names (record { refusal = accepted; first = entry_in index (seen_8088 address) }) stored.shared stored.screen stored.attribute
-  accepted_names goes_on =
-      let long = accepts goes_on in
-      let lent = picture_accepts m shared screen attribute picture address byte long.1 in
-      let memories = lent_8088 (accepted_right m _ address lent.1).0 in
-      let kept = lengths_kept (seen_8088 address) in
-      record {
-        none = none_named goes_on refl;
-        lengths = λ h. (kept.0 ∙ memories.1.0, (kept.1 ∙ memories.1.1, (lent.0, long.0)));
-        one = λ h e. rw (e.0, e.1.0, e.1.1) (one_named goes_on refl h);
-      }
-    where
-      lengths_kept :
-          (seen : Seen) → let after = store_seen seen shared screen attribute byte in
-          (length after.screen ≡ length screen) × (length after.attribute ≡ length attribute)
-      lengths_kept (Shared place) = (refl, refl)
-      lengths_kept (Screen place) = (length-set screen place byte, refl)
-      lengths_kept (Attribute place) = (refl, length-set attribute place byte)
-      lengths_kept Nowhere = (refl, refl)
-
-  refused_names : refuses refusal ≡ true → Names (record { refusal = refusal; first = rows }) shared screen attribute
-  refused_names h =
-      record { none = λ _. sym (refused_outcome h); lengths = λ l. absurd (omega arith); one = λ l e. absurd (omega arith) }
-
-  pub names :
-      {named : Named} {shared' screen' attribute' : List ℕ}
-      → stored_named named shared' screen' attribute' ≡ store_named m shared screen attribute picture index address byte
-      → Names named shared' screen' attribute'
-  names e = subst Named' (sym e) (go (refuses refusal) refl)
-    where
-      Named' : StoredNamed → Type 0
-      Named' one = Names one.named one.shared one.screen one.attribute
-
-      go : (b : Bool) → refuses refusal ≡ b → Named' (store_named m shared screen attribute picture index address byte)
-      go true h = rw h (refused_names h)
-      go false h = rw h (accepted_names h)
+    one_named row {marks} {picture'} {index'} one is told pictured numbered =
+        let named = names_one index (seen_8088 address) row (rw sees at one) in
+        let s = store_seen (seen_8088 address) shared screen attribute byte in
+        let first : first_in index (seen_8088 address) ≡ row = named.0 in
+        rw (
+          told,
+          pictured,
+          numbered,
+          is,
+          ap (λ (s : Stored8088). s.shared) stored,
+          ap (λ (s : Stored8088). s.screen) stored,
+          ap (λ (s : Stored8088). s.attribute) stored,
+          sees,
+        )
+        (sym (mended_outcome on ∙ rw (first, lt-ltb row rows named.1)))

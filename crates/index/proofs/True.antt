@@ -7,22 +7,22 @@ use native.Mathlib.Omega.{arith}
 use lib.ListN.{get_or}
 use lib.Dec.{ltb}
 use borrow.Author.Tests.{lt-ltb, le-ltb, ltb-true, ltb-false}
+use Rattle.std.specs.Prelude.{Option, Some, None}
 use Rattle.lent.specs.Lengths.{screen_bytes, index_bytes}
 use Rattle.lent.specs.Refusals.{refuses}
 use Rattle.machine.specs.declared.Machine.{Machine}
 use Rattle.memories.specs.View8088.{seen_8088}
 use Rattle.memories.specs.declared.view8088.Seen.{Seen}
-use Rattle.memories.specs.declared.view8088.Seen.TheVariants.{Shared, Screen, Attribute, Nowhere}
+use Rattle.memories.specs.declared.view8088.Seen.TheVariants.{Shared, Screen, Attribute}
+use Rattle.memories.proofs.Laws.{Lies, placed}
 use Rattle.chain.specs.Chain.{Chain, rows, row_at}
 use Rattle.chain.proofs.First.{same_first}
 use Rattle.picture.specs.Draw.{chain_of}
 use Rattle.readers.specs.Readers.{row_reads, first_reader}
-use Rattle.readers.specs.Inner.{InMemory}
 use Rattle.readers.specs.Stored.{chain_stored}
 use Rattle.readers.proofs.Readers.{none_off_screen, is_first}
 use Rattle.readers.proofs.Stored.{reads_alike}
 use Rattle.mending.specs.Store.{stored_with_picture, refusal_with_picture, store_with_picture}
-use Rattle.mending.proofs.Outcome.{in_memory}
 use Rattle.index.specs.Index.{no_row, entry_of, seen_at, entries, index_of}
 use Rattle.index.specs.Store.{first_in, renewed_entry, renewed, refusal_with_index, StoredWithIndex, store_with_index}
 use Rattle.index.specs.True.{IsTrue, SameAsWithout, StaysTrue}
@@ -35,7 +35,7 @@ same_entries f g n same =
 
 module _ (c : Chain) where
   -- the row that an entry names is the first reader
-  names : (seen : Seen) → let entry = entry_of c seen in cond (ltb entry rows) entry rows ≡ first_reader c seen
+  names : (seen : Option Seen) → let entry = entry_of c seen in cond (ltb entry rows) entry rows ≡ first_reader c seen
   names seen = go (ltb (first_reader c seen) rows) refl
     where
       f : ℕ
@@ -48,23 +48,24 @@ module _ (c : Chain) where
   true_entry : (at : ℕ) → at < index_bytes → get_or (index_of c) at no_row ≡ entry_of c (seen_at at)
   true_entry at = entry_at (λ one. entry_of c (seen_at one)) index_bytes at no_row
 
-  true_row : (seen : Seen) → InMemory seen → first_in (index_of c) seen ≡ first_reader c seen
-  true_row (Shared place) lies = sym (none_off_screen c (Shared place) refl)
-  true_row (Screen place) lies = rw (true_entry place (omega arith), lt-ltb place screen_bytes lies) (names (Screen place))
-  true_row (Attribute place) lies =
+  true_row : (address : ℕ) (seen : Option Seen) → Lies address seen → first_in (index_of c) seen ≡ first_reader c seen
+  true_row address (Some (Shared place)) lies = sym (none_off_screen c (Some (Shared place)) tt)
+  true_row address (Some (Screen place)) lies =
+      rw (true_entry place (omega (arith, lies.0)), lt-ltb place screen_bytes lies.0) (names (Some (Screen place)))
+  true_row address (Some (Attribute place)) lies =
       let back : screen_bytes + place - screen_bytes ≡ place = omega arith in
-      rw (true_entry (screen_bytes + place) (omega arith), le-ltb (screen_bytes + place) screen_bytes (omega arith), back)
-      (names (Attribute place))
-  true_row Nowhere lies = sym (none_off_screen c Nowhere refl)
+      rw (true_entry (screen_bytes + place) (omega (arith, lies.0)), le-ltb (screen_bytes + place) screen_bytes (omega arith), back)
+      (names (Some (Attribute place)))
+  true_row address None lies = sym (none_off_screen c None tt)
 
 -- so a true index names the first reader of what the 8088 sees
 pub names_the_first :
     (m : Machine) (screen attribute index : List ℕ) (address : ℕ) → IsTrue m screen attribute index
     → first_in index (seen_8088 address) ≡ first_reader (chain_of m screen attribute) (seen_8088 address)
 names_the_first m screen attribute index address is_true =
-    rw is_true (true_row (chain_of m screen attribute) (seen_8088 address) (in_memory address refl))
+    rw is_true (true_row (chain_of m screen attribute) address (seen_8088 address) (placed address refl refl))
 
-module _ (c : Chain) (seen : Seen) (byte : ℕ) (shared : List ℕ) where
+module _ (c : Chain) (seen : Option Seen) (byte : ℕ) (shared : List ℕ) where
   abbrev after : Chain
   after = chain_stored c seen byte shared
 
@@ -72,7 +73,7 @@ module _ (c : Chain) (seen : Seen) (byte : ℕ) (shared : List ℕ) where
   f = first_reader c seen
 
   -- what a row ahead of f reads first, it reads first after the store too
-  same_under : (one : Seen) → first_reader c one < f → first_reader after one ≡ first_reader c one
+  same_under : (one : Option Seen) → first_reader c one < f → first_reader after one ≡ first_reader c one
   same_under one under =
       let within = (is_first c seen).0 in
       let before = (is_first c one).1 in
@@ -86,16 +87,16 @@ module _ (c : Chain) (seen : Seen) (byte : ℕ) (shared : List ℕ) where
       omega (arith, no_later, no_earlier)
 
   -- where no row reads the byte, each other is first read by the row that it was
-  same_all : f ≡ rows → (one : Seen) → first_reader after one ≡ first_reader c one
+  same_all : f ≡ rows → (one : Option Seen) → first_reader after one ≡ first_reader c one
   same_all none one =
       same_first (λ row. row_reads after one (row_at after row)) (λ row. row_reads c one (row_at c row)) 0 rows
       (λ row _ h. reads_alike c seen byte shared one row (omega arith))
 
-  same_entry : (one : Seen) → first_reader after one ≡ first_reader c one → entry_of c one ≡ entry_of after one
+  same_entry : (one : Option Seen) → first_reader after one ≡ first_reader c one → entry_of c one ≡ entry_of after one
   same_entry one same = rw same
 
   stays_or_new :
-      (one : Seen) (b : Bool) → ltb (entry_of c one) f ≡ b → cond b (entry_of c one) (entry_of after one) ≡ entry_of after one
+      (one : Option Seen) (b : Bool) → ltb (entry_of c one) f ≡ b → cond b (entry_of c one) (entry_of after one) ≡ entry_of after one
   stays_or_new one true e =
       let under = ltb-true (entry_of c one) f e in
       let named : entry_of c one < rows = omega (arith, (is_first c seen).0) in

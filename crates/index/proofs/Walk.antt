@@ -3,33 +3,33 @@
 use Prim.Native.Nat.{ℕ, zero, suc, ◌+◌, ◌-◌, ◌≤◌, ◌<◌}
 use mathlib.Core.Path.{◌≡◌, refl, sym, ap, ◌∙◌}
 use mathlib.Core.List.{List, ◌++◌, append-nil}
-use mathlib.Core.Bool.{false, cond, true≢false}
+use mathlib.Core.Bool.{true, cond}
 use native.Mathlib.Numerals.{add-one}
 use native.Mathlib.Omega.{arith}
 use lib.ListN.{length, get_or, replicate, length-replicate, get_or-replicate}
 use lib.Dec.{ltb}
+use borrow.Author.Tests.{le-ltb}
+use Rattle.std.specs.Prelude.{Option, Some, None, is_none}
 use Rattle.lent.specs.Lengths.{index_bytes}
-use Rattle.chain.specs.Chain.{Chain, Row as ARow, Whole, Torn, Dark, places, capacity, first, next, rows, row_at}
+use Rattle.chain.specs.Chain.{Chain, Row, Whole, Torn, Dark, capacity, first, next, rows, row_at}
 use Rattle.chain.specs.Reading.{from, screen_read, attribute_read, reads}
 use Rattle.chain.specs.Inner.{row_ahead, ahead_of}
-use Rattle.chain.specs.declared.Ahead.{Ahead}
-use Rattle.chain.specs.declared.Ahead.TheVariants.{Row, Dark as NoneAhead}
+use Rattle.chain.specs.declared.Head.{Head}
 use Rattle.chain.proofs.Laws.{ahead_leads}
-use Rattle.chain.proofs.Reading.{reads_at}
-use Rattle.records.specs.Record.{record_pairs}
 use Rattle.records.specs.Inner.{read_of, row_read}
 use Rattle.records.specs.declared.RowRead.{RowRead}
 use Rattle.readers.specs.Readers.{reads_byte, row_reads}
-use Rattle.readers.specs.Inner.{Comes}
 use Rattle.readers.proofs.Laws.{from_over, none_read}
 use Rattle.index.specs.Index.{no_row, seen_at, entry_of, entries, index_of}
 use Rattle.index.specs.Store.{renewed_entry}
-use Rattle.index.specs.Inner.{leads_on, forgotten, number_put, numbered_to, Changed, InPlaces, read_at, RowsNumbered}
+use Rattle.index.specs.Inner.{forgotten, lower, number_put, numbered_to, Changed, read_at, RowsNumbered}
+use Rattle.mending.specs.Inner.{RowsNoted}
+use Rattle.mending.proofs.Walk.{read_at_row}
 use Rattle.index.proofs.Index.{any_default, are_entries}
 use Rattle.index.proofs.Numbers.{numbers_so_far}
 
 -- what a row that was read reads is what the row reads
-reads_as_row : (c : Chain) (row : ARow) (at : ℕ) → read_at (read_of c row) at ≡ row_reads c (seen_at at) row
+reads_as_row : (c : Chain) (row : Row) (at : ℕ) → read_at (read_of c row) at ≡ row_reads c (seen_at at) row
 unfolding screen_read attribute_read reads from
 reads_as_row c (Whole head cells) at =
     ap (λ (low : List ℕ). reads_byte (seen_at at) (from head.start (cells + 3)) (from head.start cells ++ low))
@@ -38,23 +38,6 @@ reads_as_row c (Torn head) at =
     ap (reads_byte (seen_at at) (from head.start (capacity c.columns head.kind + 1)))
     (append-nil (from head.start (capacity c.columns head.kind)))
 reads_as_row c Dark at = refl
-
--- it lies in memory
-pub in_places :
-    (c : Chain) (row : ℕ) → c.columns ≤ record_pairs → {read : RowRead} → read ≡ read_of c (row_at c row)
-    → (read.head.start < places) × (read.cells ≤ record_pairs) → InPlaces read
-in_places c row wide e fits =
-    record {
-      starts = fits.0;
-      reads = omega (arith, ap (λ (one : RowRead). one.reads) e, reads_at c row);
-      cells = omega (arith, fits.1);
-    }
-
--- the row that lies ahead is the walk's
-pub is_row :
-    (c : Chain) (ahead : Ahead) (row : ℕ) → ahead ≡ ahead_of c row → {read : RowRead} → read ≡ row_read c ahead
-    → read ≡ read_of c (row_at c row)
-is_row c ahead row comes e = e ∙ ap (read_of c) (rw comes (ahead_leads c row))
 
 pub no_rows : (c : Chain) (f from : ℕ) (l : List ℕ) → RowsNumbered c f from from l l
 no_rows c f from l = record { same = refl; each = λ at entry h e. e }
@@ -77,38 +60,27 @@ one_row {c} {f} {from} {row} {l} {m} {n} before long {read} e {g} same now =
         now.each at (omega (arith, before.same)) ∙ rw (reads, same (get_or m at 0), was, add-one row)
 
 -- the rows that are passed, up to one
-pub record Passing (c : Chain) (f passed : ℕ) (old index : List ℕ) (ahead : Ahead) (row : ℕ) : Type 0 where
-  pub within : row ≤ passed
-  pub comes : row < rows → ahead ≡ ahead_of c row
+pub record Passing (c : Chain) (f : ℕ) (old index : List ℕ) (ahead : Option Head) (row : ℕ) : Type 0 where
+  pub comes : ahead ≡ ahead_of c row
   pub numbers : RowsNumbered c f 0 row old index
 
-pub passing_begins : (c : Chain) (f passed : ℕ) (old : List ℕ) → Passing c f passed old old (Row first) 0
+pub passing_begins : (c : Chain) (f : ℕ) (old : List ℕ) → Passing c f old old (Some first) 0
 unfolding ahead_of
-passing_begins c f passed old = record { within = omega arith; comes = λ h. refl; numbers = no_rows c f 0 old }
-
--- the row that was read there
-pub passed_read :
-    {c : Chain} {f passed row : ℕ} {old index : List ℕ} {ahead : Ahead} → Passing c f passed old index ahead row → row < rows
-    → {read : RowRead} → read ≡ row_read c ahead → read ≡ read_of c (row_at c row)
-passed_read {c} {row = row} {ahead = ahead} p more e = is_row c ahead row (p.comes more) e
+passing_begins c f old = record { comes = refl; numbers = no_rows c f 0 old }
 
 pub passing_goes_on :
-    {c : Chain} {f passed row : ℕ} {old index new : List ℕ} {ahead : Ahead} → Passing c f passed old index ahead row
-    → row < passed → passed ≤ rows → length old ≡ index_bytes → {read : RowRead} → read ≡ row_read c ahead
-    → Changed (read_at read) (number_put f row) index new → Passing c f passed old new read.next (row + 1)
+    {c : Chain} {f row : ℕ} {old index new : List ℕ} {ahead : Option Head} → Passing c f old index ahead row
+    → length old ≡ index_bytes → {read : RowRead} → read ≡ row_read c ahead
+    → Changed (read_at read) (number_put f row) index new → Passing c f old new read.next (row + 1)
 unfolding ahead_of
-passing_goes_on {row = row} p more within long e now =
-    let is = passed_read p (omega arith) e in
-    record {
-      within = omega arith;
-      comes = λ h. rw (add-one row, is);
-      numbers = one_row p.numbers long is (λ x. refl) now;
-    }
+passing_goes_on {c} {row = row} p long e now =
+    let is = read_at_row c row p.comes e in
+    record { comes = rw (add-one row, is); numbers = one_row p.numbers long is (λ x. refl) now }
 
 -- a dark row has no number to write, and leads to a dark one
 stays_dark :
-    (c : Chain) (f n row : ℕ) → row_at c row ≡ Dark → ahead_of c row ≡ NoneAhead
-    → (ahead_of c (row + n) ≡ NoneAhead) × ((at entry : ℕ) → numbered_to c f at (row + n) entry ≡ numbered_to c f at row entry)
+    (c : Chain) (f n row : ℕ) → row_at c row ≡ Dark → ahead_of c row ≡ None
+    → (ahead_of c (row + n) ≡ None) × ((at entry : ℕ) → numbered_to c f at (row + n) entry ≡ numbered_to c f at row entry)
 unfolding ahead_of row_at next numbered_to screen_read attribute_read
 stays_dark c f zero row dark ahead =
     let here : row + 0 ≡ row = omega arith in
@@ -118,22 +90,23 @@ stays_dark c f (suc n) row dark ahead =
     let later = stays_dark c f n (suc row) (rw dark) (rw dark) in
     rw (← on) (later.0, λ at entry. later.1 at entry ∙ rw (dark, none_read (seen_at at)))
 
+none_is : (one : Option Head) → is_none one ≡ true → one ≡ None
+none_is (Some head) h = absurd cc
+none_is None h = refl
+
 pub dark_ends :
-    {c : Chain} {f passed row : ℕ} {old index : List ℕ} {ahead : Ahead} → Passing c f passed old index ahead row → row < passed
-    → passed ≤ rows → leads_on ahead ≡ false
-    → ((passed ≡ passed) × Comes c (record { row = passed; ahead = ahead })) × RowsNumbered c f 0 passed old index
-dark_ends {c} {f} {passed} {row} {old} {index} {ahead} p more within ends =
-    let is : ahead ≡ NoneAhead = none_ahead ahead ends in
-    let comes = sym (p.comes (omega arith)) ∙ is in
-    let last : row + (passed - row) ≡ passed = omega arith in
-    let on = rw last at (stays_dark c f (passed - row) row (sym (ahead_leads c row) ∙ ap (row_ahead c) comes) comes) in (
-      (refl, λ h. is ∙ sym on.0),
-      record { same = p.numbers.same; each = λ at entry h e. p.numbers.each at entry h e ∙ sym (on.1 at entry) },
-    )
-  where
-    none_ahead : (one : Ahead) → leads_on one ≡ false → one ≡ NoneAhead
-    none_ahead (Row head) h = absurd (true≢false h)
-    none_ahead NoneAhead h = refl
+    {c : Chain} {f : ℕ} {old index : List ℕ} {ahead : Option Head} (row last : ℕ) → Passing c f old index ahead row → row ≤ last
+    → is_none ahead ≡ true → Passing c f old index None last
+dark_ends {c} {f} {old} {index} {ahead} row last p within ends =
+    let is = none_is ahead ends in
+    let comes = sym p.comes ∙ is in
+    let all : row + (last - row) ≡ last = omega arith in
+    let on = rw all at (stays_dark c f (last - row) row (sym (ahead_leads c row) ∙ ap (row_ahead c) comes) comes) in
+    record {
+      comes = sym on.0;
+      numbers =
+          record { same = p.numbers.same; each = λ at entry h e. p.numbers.each at entry h e ∙ sym (on.1 at entry) };
+    }
 
 -- the index after a store's first row is f, and all rows have written their numbers
 pub all_numbered :
@@ -146,6 +119,20 @@ all_numbered c f old forgot new within long as_long was now =
     (λ at h. now.each at (forgotten f (get_or old at 0)) h (was at h)
     ∙ numbers_so_far c f at (get_or old at 0) within rows (omega arith)
     ∙ ap (λ (x : ℕ). cond (ltb x f) x (entry_of c (seen_at at))) (any_default 0 no_row old at (omega arith)))
+
+-- the rows that a mend notes
+pub noted_rows :
+    (c : Chain) (f many : ℕ) {l n : List ℕ} → length l ≡ index_bytes
+    → RowsNoted (λ row read before after. Changed (read_at read) (lower row) before after) c f many l n
+    → RowsNumbered c f f (f + many) l n
+unfolding RowsNoted
+noted_rows c f zero {l} {n} long e =
+    let here : f + 0 ≡ f = omega arith in
+    rw (here, ← e) (no_rows c f f l)
+noted_rows c f (suc many) {l} {n} long (now, (earlier, this)) =
+    let next : f + many + 1 ≡ f + suc many = omega arith in
+    let put : (x : ℕ) → lower (f + many) x ≡ number_put f (f + many) x = λ x. rw (le-ltb (f + many) f (omega arith)) in
+    rw (← next) (one_row (noted_rows c f many long earlier) long refl put this)
 
 -- one walk after the other
 pub rows_joined :

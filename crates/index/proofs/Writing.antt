@@ -3,40 +3,22 @@
 use Prim.Native.Nat.{ℕ, ◌+◌, ◌-◌, ◌%◌, ◌≤◌, ◌<◌, min}
 use mathlib.Core.Path.{◌≡◌, refl, sym, ◌∙◌}
 use mathlib.Core.List.{List, map}
-use mathlib.Core.Bool.{Bool, true, false, cond, ◌&&◌, ◌||◌}
+use mathlib.Core.Bool.{Bool, true, false, ◌&&◌, ◌||◌}
 use native.Mathlib.Omega.{arith}
 use lib.ListN.{length}
-use lib.Dec.{eqb, ltb, leb}
+use lib.Dec.{ltb, leb}
 use borrow.Author.Tests.{lt-ltb, le-ltb, ltb-true, ltb-false, le-leb, lt-leb, leb-true, leb-false}
-use borrow.Rule.Slice.PartMut.{mid_of, put_mid, mid_len, same_len_mid}
+use borrow.Rule.Slice.PartMut.{mid_of, put_mid}
+use Rattle.std.specs.Prelude.{is_some}
+use Rattle.std.specs.Int.{from_bool}
 use Rattle.lent.specs.Lengths.{screen_bytes, index_bytes}
 use Rattle.chain.specs.Chain.{places}
 use Rattle.chain.specs.Reading.{from}
 use Rattle.records.specs.declared.RowRead.{RowRead}
 use Rattle.readers.specs.Readers.{among}
 use Rattle.readers.proofs.Laws.{offset, among-from, among_both}
-use Rattle.index.specs.Index.{no_row}
-use Rattle.index.specs.Inner.{leads_on, lower, unless_numbered, Changed, read_at}
+use Rattle.index.specs.Inner.{Changed, read_at}
 use Rattle.index.proofs.Changes.{inside, all_changed, same_changed, both_changed, part_changed}
-
--- a number that is written twice is written once
-pub lower_twice : (row entry : ℕ) → lower row (lower row entry) ≡ lower row entry
-lower_twice row entry = go (ltb row entry) refl
-  where
-    go : (b : Bool) → ltb row entry ≡ b → lower row (cond b row entry) ≡ cond b row entry
-    go true e = rw (le-ltb row row (omega arith))
-    go false e = rw e
-
-pub unless_twice : (row entry : ℕ) → unless_numbered row (unless_numbered row entry) ≡ unless_numbered row entry
-unless_twice row entry = go (eqb entry no_row) refl
-  where
-    again : (b : Bool) → cond b row row ≡ row
-    again true = refl
-    again false = refl
-
-    go : (b : Bool) → eqb entry no_row ≡ b → unless_numbered row (cond b row entry) ≡ cond b row entry
-    go true e = again (eqb row no_row)
-    go false e = rw e
 
 -- so many places from a start on are those up to the end of memory, and those from place 0 on
 two_parts :
@@ -95,18 +77,18 @@ module _ {g : ℕ → ℕ} (twice : (x : ℕ) → g (g x) ≡ g x) where
 
   -- the places that a row reads, in the half of screen memory and in that of attribute memory
   pub row_changed :
-      (read : RowRead) (l : List ℕ) {links : ℕ} {a b c : List ℕ} → length l ≡ index_bytes
-      → links ≡ cond (leads_on read.next) 1 0
+      (read : RowRead) (l : List ℕ) {low links : ℕ} {a b c : List ℕ} → length l ≡ index_bytes
+      → low ≡ (read.head.start + (read.cells + 1)) % places → links ≡ from_bool (is_some read.next)
       → let start = read.head.start in
       let cells = read.cells in
       Changed (λ place. among place (from start read.reads)) g (mid_of 0 4096 l) a
       → Changed (λ place. among place (from start cells)) g (mid_of 4096 4096 (put_mid 0 4096 l a)) b
-      → Changed (λ place. among place (from ((start + cells + 1) % places) links)) g b c
+      → Changed (λ place. among place (from low links)) g b c
       → Changed (read_at read) g l (put_mid 4096 4096 (put_mid 0 4096 l a) c)
-  row_changed read l {links} {a} long is screen beside low =
+  row_changed read l {low} {links} {a} long at_low is screen beside linked =
       let one = part_changed 0 4096 l (omega arith) (omega arith) screen in
       let other =
-      part_changed 4096 8192 (put_mid 0 4096 l a) (omega arith) (omega (arith, one.same)) (both_changed twice beside low) in
+      part_changed 4096 8192 (put_mid 0 4096 l a) (omega arith) (omega (arith, one.same)) (both_changed twice beside linked) in
       same_changed (λ at h. go at (omega arith) (ltb at screen_bytes) refl) (both_changed twice one other)
     where
       go :
@@ -114,7 +96,7 @@ module _ {g : ℕ → ℕ} (twice : (x : ℕ) → g (g x) ≡ g x) where
           → (inside 0 4096 at && among (at - 0) (from read.head.start read.reads)
           || inside 4096 8192 at
           && (among (at - 4096) (from read.head.start read.cells)
-          || among (at - 4096) (from ((read.head.start + read.cells + 1) % places) links)))
+          || among (at - 4096) (from low links)))
           ≡ read_at read at
       go at under true e =
           let less = ltb-true at screen_bytes e in
@@ -122,14 +104,5 @@ module _ {g : ℕ → ℕ} (twice : (x : ℕ) → g (g x) ≡ g x) where
           rw (e, lt-leb 4096 at less, le-leb 0 at (omega arith), whole) (right (among at (from read.head.start read.reads)))
       go at under false e =
           let more = ltb-false at screen_bytes e in
-          rw (e, le-leb 4096 at more, lt-ltb at 8192 under, among_both (at - 4096) (from read.head.start read.cells), is, le-leb 0 at (omega arith))
-
--- the half of attribute memory, after that of screen memory came back
-pub half_lent :
-    (l a : List ℕ) → length l ≡ index_bytes → length a ≡ length (mid_of 0 4096 l)
-    → length (mid_of 4096 4096 (put_mid 0 4096 l a)) ≡ places
-half_lent l a long same = mid_len 4096 8192 (put_mid 0 4096 l a) (omega (arith, long, same_len_mid 0 4096 l a same))
-
-pub links_fit : {links : ℕ} (linked : Bool) → links ≡ cond linked 1 0 → links ≤ places
-links_fit true e = omega (arith, e)
-links_fit false e = omega (arith, e)
+          let one : read.head.start + (read.cells + 1) ≡ read.head.start + read.cells + 1 = omega arith in
+          rw (e, le-leb 4096 at more, lt-ltb at 8192 under, among_both (at - 4096) (from read.head.start read.cells), at_low, one, is, le-leb 0 at (omega arith))

@@ -1,5 +1,5 @@
 -- Document 02, ticket 8: an index of first readers, and the call that works it out afresh.
-use Rattle.std.specs.Prelude.{ℕ, zero, suc, ◌-◌, List, [], ◌∷◌, ◌++◌, Bool, not, cond, ◌&&◌, length, eqb, ltb}
+use Rattle.std.specs.Prelude.{ℕ, zero, suc, ◌-◌, List, [], ◌∷◌, ◌++◌, Bool, not, ◌&&◌, length, ◌==◌, if◌then◌else◌, nat_lt, Option, Some}
 use Rattle.lent.specs.Lengths.{screen_bytes, attribute_bytes, index_bytes}
 use Rattle.lent.specs.Refusals.{accepted, refuses, length_refused, refusal_of}
 use Rattle.machine.specs.declared.Machine.{Machine}
@@ -13,12 +13,12 @@ use Rattle.readers.specs.Readers.{first_reader}
 abbrev pub no_row : ℕ
 no_row = 255
 
-abbrev pub entry_of : Chain → Seen → ℕ
-entry_of c seen = let f = first_reader c seen in cond (ltb f rows) f no_row
+abbrev pub entry_of : Chain → Option Seen → ℕ
+entry_of c seen = let f = first_reader c seen in if nat_lt f rows then f else no_row
 
 -- "for each place of screen and then of attribute memory": the place that an entry is for
-abbrev pub seen_at : (at : ℕ) → Seen
-seen_at at = cond (ltb at screen_bytes) (Screen at) (Attribute (at - screen_bytes))
+abbrev pub seen_at : (at : ℕ) → Option Seen
+seen_at at = Some (if nat_lt at screen_bytes then Screen at else Attribute (at - screen_bytes))
 
 -- so many entries, one after the other
 unfoldable pub entries : (entry_at : ℕ → ℕ) → (many : ℕ) → List ℕ
@@ -32,7 +32,7 @@ index_of c = entries (λ at. entry_of c (seen_at at)) index_bytes
 -- the three lengths are those of the list
 unfoldable pub lengths_index : ℕ → ℕ → ℕ → Bool
 lengths_index screen attribute index =
-    eqb screen screen_bytes && (eqb attribute attribute_bytes && eqb index index_bytes)
+    screen == screen_bytes && (attribute == attribute_bytes && index == index_bytes)
 
 -- what the call leaves: its answer and the index
 pub record IndexedReaders : Type 0 where
@@ -51,4 +51,4 @@ refusal_indexing screen attribute index =
 abbrev pub index_readers : Machine → (screen attribute index : List ℕ) → IndexedReaders
 index_readers m screen attribute index =
     let refusal = refusal_indexing screen attribute index in
-    cond (refuses refusal) (indexed refusal index) (indexed accepted (index_of (chain_of m screen attribute)))
+    if refuses refusal then indexed refusal index else indexed accepted (index_of (chain_of m screen attribute))

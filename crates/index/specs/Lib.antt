@@ -3,3 +3,4 @@ pub mod Store
 pub mod Meaning
 pub mod True
 pub mod Inner
+pub mod Twice

@@ -2,233 +2,127 @@
 // reads it. It is worked out afresh, or kept by a store that takes its first row from it. Document 02, ticket 8.
 #![tactic(auto)]
 
-ghost use Rattle.std.specs.Prelude.{◌≤◌, ◌≡◌, length};
-ghost use Rattle.lent.specs.Lengths.{screen_bytes, attribute_bytes, picture_bytes, index_bytes};
-ghost use Rattle.chain.specs.Chain.{chain, rows};
-ghost use Rattle.records.specs.Record.{record_pairs};
-ghost use Rattle.readers.specs.Inner.{InMemory, Comes};
+ghost use Rattle.std.specs.Prelude.{ℕ, ◌≤◌, ◌≡◌, Some, length};
+ghost use Rattle.lent.specs.Lengths.{picture_bytes, index_bytes};
+ghost use Rattle.lent.specs.Refusals.{answered};
+ghost use Rattle.memories.specs.Inner.{InMemory};
+ghost use Rattle.chain.specs.Chain.{rows};
+ghost use Rattle.chain.specs.Inner.{ahead_of};
+ghost use Rattle.chain.specs.Page.{chain_on};
+ghost use Rattle.records.specs.declared.RowRead.{RowRead};
 ghost use Rattle.mending.specs.Mending.{mended, marks_of};
-ghost use Rattle.index.specs.Index.{entries, lengths_index, indexed, index_readers};
-ghost use Rattle.index.specs.Store.{entry_in, renewed_entry, lengths_with_index, stored_with_index, store_with_index};
-ghost use Rattle.index.specs.Inner.{RowsNumbered, stored_named, store_named};
+ghost use Rattle.mending.specs.Store.{store_answered};
+ghost use Rattle.index.specs.Index.{entries, indexed, index_readers};
+ghost use Rattle.index.specs.Store.{renewed_entry, stored_with_index, store_with_index};
+ghost use Rattle.index.specs.Inner.{row_named, lower, Changed, read_at, RowsNumbered};
 
 pub mod numbering;
 
-use chain::{Ahead, Head};
+use chain::{Head, Page};
+use lent::{
+    ATTRIBUTE_BYTES, INDEX_BYTES, PICTURE_BYTES, Refusal, SCREEN_BYTES, SHARED_BYTES, lend,
+};
 use machine::Machine;
 use memories::Seen;
-use mending::Stored;
-use numbering::NO_ROW;
+use mending::{Beside, page_lent};
+use numbering::{Forget, Lower, NO_ROW};
 use readers::Reader;
+use records::RowRead;
+
+pub type Index = [u8; INDEX_BYTES];
 
 // Passes the first rows without drawing them, and writes their numbers to an index of which a store keeps the entries
-// that are under its first row.
-fn pass_rows(
-    columns: usize,
+// that are under its first row. Answers what lies ahead then.
+fn pass_rows(page: &Page, passed: usize, first: usize, index: &mut Index) -> Option<Head>
+    requires { passed ≤ rows × first ≤ rows }
+    ensures lies_ahead { result ≡ ahead_of (chain_on page.now) passed }
+    ensures rows_numbered { RowsNumbered (chain_on page.now) first 0 passed index.old index.new }
+{
+    let mut ahead = Some(Head::first());
+    for row in 0..passed {
+        // After a torn row all rows are dark, and a dark row reads nothing.
+        if ahead.is_none() {
+            return None;
+        }
+        let read = records::read_ahead(page, ahead);
+        numbering::number_passed(index, &read, row as u8, first as u8);
+        ahead = read.next;
+    }
+    ahead
+}
+
+// Works the index out afresh from screen and attribute memory.
+#[tactic(auto, unfolding(crate::specs::Index::lengths_index))]
+pub fn index_readers(
+    machine: Machine,
     screen: &[u8],
     attribute: &[u8],
-    passed: usize,
-    first: usize,
     index: &mut [u8],
-) -> Reader
-    requires screen_len { length screen.now ≡ screen_bytes }
-    requires attribute_len { length attribute.now ≡ attribute_bytes }
-    requires index_len { length index.old ≡ index_bytes }
-    requires columns_le_record_pairs { (columns ≤ record_pairs) × ((passed ≤ rows) × (first ≤ rows)) }
-    ensures row_value { (result.row ≡ passed)
-        × Comes (chain columns screen.now attribute.now) result }
-    ensures rows_numbered { RowsNumbered (chain columns screen.now attribute.now) first 0 passed
-        index.old index.new }
-{
-    let mut ahead = Ahead::Row(Head::first());
-    let mut row = 0;
-    while row < passed {
-        // After a torn row all rows are dark, and a dark row reads nothing.
-        if !numbering::leads_on(ahead) {
-            return Reader { row: passed, ahead };
-        }
-        let read = records::read_ahead(columns, screen, attribute, ahead);
-        numbering::number_passed(index, read, row as u8, first as u8);
-        ahead = read.next;
-        row += 1;
-    }
-    Reader { row, ahead }
-}
-
-fn lengths_index(screen: usize, attribute: usize, index: usize) -> bool
-    ensures { result ≡ lengths_index screen attribute index }
-{
-    lent::three_lengths(
-        screen,
-        lent::SCREEN_BYTES,
-        attribute,
-        lent::ATTRIBUTE_BYTES,
-        index,
-        lent::INDEX_BYTES,
-    )
-}
-
-// Works the index out afresh from screen and attribute memory. The answer is the number of refusal, 0 where it is
-// accepted.
-pub fn index_readers(machine: Machine, screen: &[u8], attribute: &[u8], index: &mut [u8]) -> u8
-    ensures { indexed result index.new
+) -> Result<(), Refusal>
+    ensures { indexed (answered result) index.new
         ≡ index_readers machine screen.now attribute.now index.old }
 {
-    if !lengths_index(screen.len(), attribute.len(), index.len()) {
-        return lent::LENGTH;
-    }
-    numbering::clear(index);
-    pass_rows(machine.columns(), screen, attribute, chain::ROWS, 0, index);
-    lent::ACCEPTED
+    let screen = lend(screen)?;
+    let attribute = lend(attribute)?;
+    let index = index.as_mut_array().ok_or(Refusal::Length)?;
+    index.fill(NO_ROW);
+    let page = picture::page_of(machine, screen, attribute);
+    pass_rows(&page, chain::ROWS, 0, index);
+    Ok(())
 }
 
-// Mends the picture from a row on, as a store with no index does, and writes the number of each row that it draws.
-fn mend_rows(
-    columns: usize,
-    screen: &[u8],
-    attribute: &[u8],
-    first: Reader,
-    picture: &mut [u8],
-    index: &mut [u8],
-) -> u32
-    requires screen_len { length screen.now ≡ screen_bytes }
-    requires attribute_len { length attribute.now ≡ attribute_bytes }
-    requires picture_len { length picture.old ≡ picture_bytes }
-    requires index_len { length index.old ≡ index_bytes }
-    requires columns_le_record_pairs { (columns ≤ record_pairs) × (first.row ≤ rows) }
-    requires comes { Comes (chain columns screen.now attribute.now) first }
-    ensures value { result
-        ≡ marks_of picture.old
-        (mended (chain columns screen.now attribute.now) first.row
-        picture.old) }
-    ensures picture_after { picture.new
-        ≡ mended (chain columns screen.now attribute.now) first.row
-        picture.old }
-    ensures rows_numbered { RowsNumbered (chain columns screen.now attribute.now) first.row
-        first.row rows index.old index.new }
-{
-    let mut drawn = [0u8; records::RECORD_BYTES];
-    let mut ahead = first.ahead;
-    let mut row = first.row;
-    let mut marks = 0;
-    while row < chain::ROWS {
-        let at = row * records::RECORD_BYTES;
-        let end = at + records::RECORD_BYTES;
-        let read = records::read_ahead(columns, screen, attribute, ahead);
-        records::draw_row(screen, attribute, read, &mut drawn);
-        numbering::number_row(index, read, row as u8);
-        let changed = mending::replace(&mut picture[at..end], &drawn);
-        marks = marks::mark(marks, row, changed);
-        ahead = read.next;
-        row += 1;
+// Beside the drawing of its record, a row's number is written to the index.
+struct RowNumbers;
+
+impl Beside for RowNumbers {
+    type Kept = Index;
+
+    ghost noted = { λ row read before after. Changed (read_at read) (lower row) before after };
+
+    fn note(row: usize, read: &RowRead, index: &mut Index) {
+        numbering::change_row(index, read, Lower { row: row as u8 });
     }
-    marks
 }
 
 // Mends picture and index from a row on. Every entry that is not under that row is worked out anew, so the numbers of
-// the rows ahead of it are written too.
-pub fn mend_both(
-    columns: usize,
-    screen: &[u8],
-    attribute: &[u8],
-    first: usize,
-    picture: &mut [u8],
-    index: &mut [u8],
-) -> u32
-    requires screen_len { length screen.now ≡ screen_bytes }
-    requires attribute_len { length attribute.now ≡ attribute_bytes }
-    requires picture_len { length picture.old ≡ picture_bytes }
-    requires index_len { length index.old ≡ index_bytes }
-    requires columns_le_record_pairs { (columns ≤ record_pairs) × (first ≤ rows) }
-    ensures value { result
-        ≡ marks_of picture.old
-        (mended (chain columns screen.now attribute.now) first picture.old) }
-    ensures picture_after { picture.new
-        ≡ mended (chain columns screen.now attribute.now) first picture.old }
+// the rows ahead of it are written too. A call of its own, so that a store of a byte that no row reads stays short.
+#[inline(never)]
+fn mend_both(page: &Page, first: usize, picture: &mut [u8], index: &mut [u8]) -> u32
+    requires picture_fits { length picture.old ≡ picture_bytes }
+    requires index_fits { length index.old ≡ index_bytes }
+    requires within { first ≤ rows }
+    ensures marks { result ≡ marks_of picture.old (mended (chain_on page.now) first picture.old) }
+    ensures picture_after { picture.new ≡ mended (chain_on page.now) first picture.old }
     ensures index_after { index.new
-        ≡ entries (renewed_entry (chain columns screen.now attribute.now) first
-        index.old) index_bytes }
+        ≡ entries (renewed_entry (chain_on page.now) first index.old) index_bytes }
 {
-    numbering::forget(index, first as u8);
-    let reader = pass_rows(columns, screen, attribute, first, first, index);
-    mend_rows(columns, screen, attribute, reader, picture, index)
+    let Some(index) = index.as_mut_array() else {
+        unreachable!()
+    };
+    numbering::change_all(index, Forget { first: first as u8 });
+    let ahead = pass_rows(page, first, first, index);
+    let reader = Reader { row: first, ahead };
+    mending::mend::<RowNumbers>(page, reader, picture, index)
 }
 
-// The entry of the byte that the 8088 sees. A byte of shared memory has none.
-fn entry_in(index: &[u8], seen: Seen) -> u8
-    requires { (length index.now ≡ index_bytes) × InMemory seen }
-    ensures { result ≡ entry_in index.now seen }
+// The row that the index names for a byte that the 8088 sees. A byte of shared memory has no entry, and a number over
+// 24 is no row.
+fn row_named(index: &[u8], seen: Seen) -> Option<usize>
+    requires { length index.now ≡ index_bytes × InMemory seen }
+    ensures { result ≡ row_named index.now (Some seen) }
 {
-    match seen {
+    let entry = match seen {
         Seen::Screen(place) => index[place],
-        Seen::Attribute(place) => index[lent::SCREEN_BYTES + place],
+        Seen::Attribute(place) => index[SCREEN_BYTES + place],
         Seen::Shared(_) => NO_ROW,
-        Seen::Nowhere => NO_ROW,
-    }
-}
-
-fn lengths_with_index(
-    shared: usize,
-    screen: usize,
-    attribute: usize,
-    picture: usize,
-    index: usize,
-) -> bool
-    ensures { result ≡ lengths_with_index shared screen attribute picture index }
-{
-    mending::lengths_with_picture(shared, screen, attribute, picture) && index == lent::INDEX_BYTES
-}
-
-// What a store finds before it mends: by what it is refused, and the row that the index names for the byte. A number
-// over 24 is no row, and so it is where the store is refused.
-#[derive(Clone, Copy)]
-pub struct Named {
-    pub refusal: u8,
-    pub first: usize,
-}
-
-// Stores a byte as the 8088 does, if it is not refused, and looks up the row that the index names. This and the mending
-// are two functions: compilers make this one a part of the calls, and where no row reads the byte there is nothing else
-// to do.
-pub fn store_named(
-    machine: Machine,
-    shared: &mut [u8],
-    screen: &mut [u8],
-    attribute: &mut [u8],
-    picture: &[u8],
-    index: &[u8],
-    address: u32,
-    byte: u8,
-) -> Named
-    ensures { stored_named result shared.new screen.new attribute.new
-        ≡ store_named machine
-        shared.old screen.old attribute.old picture.now index.now
-        address byte }
-{
-    let lengths = lengths_with_index(
-        shared.len(),
-        screen.len(),
-        attribute.len(),
-        picture.len(),
-        index.len(),
-    );
-    let refusal = memories::refusal_8088(machine, lengths, address);
-    if refusal != lent::ACCEPTED {
-        return Named {
-            refusal,
-            first: chain::ROWS,
-        };
-    }
-    let entry = entry_in(index, memories::seen_8088(address));
-    memories::view8088::store_at(shared, screen, attribute, address, byte);
-    Named {
-        refusal: lent::ACCEPTED,
-        first: entry as usize,
-    }
+    };
+    let row = entry as usize;
+    (row < chain::ROWS).then_some(row)
 }
 
 // Stores a byte as the 8088 does, takes the first row that reads it from the index, and mends picture and index from
 // there.
+#[tactic(auto, unfolding(crate::specs::Store::lengths_with_index, mending::specs::Store::lengths_with_picture, memories::specs::View8088::lengths_8088, memories::specs::View8088::refused_access))]
 pub fn store_with_index(
     machine: Machine,
     shared: &mut [u8],
@@ -238,32 +132,24 @@ pub fn store_with_index(
     index: &mut [u8],
     address: u32,
     byte: u8,
-) -> Stored
-    ensures { stored_with_index result
+) -> Result<u32, Refusal>
+    ensures { stored_with_index (store_answered result)
         shared.new screen.new attribute.new picture.new index.new
         ≡ store_with_index machine
         shared.old screen.old attribute.old picture.old index.old
         address byte }
 {
-    let named = store_named(
-        machine, shared, screen, attribute, picture, index, address, byte,
-    );
-    if named.first >= chain::ROWS {
-        return Stored {
-            refusal: named.refusal,
-            marks: 0,
-        };
-    }
-    let marks = mend_both(
-        machine.columns(),
-        screen,
-        attribute,
-        named.first,
-        picture,
-        index,
-    );
-    Stored {
-        refusal: lent::ACCEPTED,
-        marks,
-    }
+    lend::<SHARED_BYTES>(shared)?;
+    lend::<SCREEN_BYTES>(screen)?;
+    lend::<ATTRIBUTE_BYTES>(attribute)?;
+    lend::<PICTURE_BYTES>(picture)?;
+    lend::<INDEX_BYTES>(index)?;
+    let seen = memories::access_8088(machine, address)?;
+    memories::view8088::store_at(shared, screen, attribute, seen, byte);
+    // Where no row reads the byte there is nothing else to do.
+    let Some(first) = row_named(index, seen) else {
+        return Ok(0);
+    };
+    let page = page_lent(machine, screen, attribute);
+    Ok(mend_both(&page, first, picture, index))
 }

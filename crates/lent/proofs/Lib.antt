@@ -2,3 +2,4 @@ pub mod Tests
 pub mod Order
 pub mod Parts
 pub mod Maps
+pub mod Told

@@ -4,6 +4,7 @@ use mathlib.Core.Path.{◌≡◌, sym, ap, ◌∙◌}
 use mathlib.Core.List.{List, ◌++◌, append_assoc, append-nil}
 use native.Mathlib.Numerals.{add-one}
 use native.Mathlib.Omega.{arith}
+use Rattle.std.proofs.lemmas.Grind.{common_steps}
 use lib.ListN.{length, get_or, take, drop, set, length-set, length-append, drop_of_length-le}
 use lib.Seq.{take_all, take_at, take-suc, take-suc-set, length-take-le}
 use borrow.Rule.Slice.PartMut.{mid_of, put_mid, mid_len, same_len_mid, drop_put}
@@ -13,27 +14,22 @@ pub all_lent : (bytes : List ℕ) (size : ℕ) → length bytes ≤ size → mid
 all_lent bytes size all = take_all (size - 0) bytes (omega arith)
 
 pub all_back : (bytes : List ℕ) (size : ℕ) (new : List ℕ) → length bytes ≤ size → put_mid 0 (size - 0) bytes new ≡ new
-all_back bytes size new all =
-    ap (λ (rest : List ℕ). new ++ rest) (drop_of_length-le bytes {i = size - 0} (omega arith)) ∙ append-nil new
+all_back bytes size new all = grind (arith, common_steps)
 
 module _ (bytes : List ℕ) (at size : ℕ) (room : at + size ≤ length bytes) where
   whole : at + size - at ≡ size
   whole = omega arith
 
   pub part_lent : length (mid_of at (at + size - at) bytes) ≡ size
-  part_lent = mid_len at (at + size) bytes (omega arith) ∙ whole
+  part_lent = grind (arith, common_steps)
 
   module _ (new : List ℕ) (same : length new ≡ size) where
     pub part_back : length (put_mid at (at + size - at) bytes new) ≡ length bytes
-    part_back = same_len_mid at (at + size - at) bytes new (same ∙ sym part_lent)
+    part_back = grind (arith, common_steps)
 
     -- it comes after the bytes before it, and ahead of those after it
     pub part_put : take (at + size) (put_mid at (at + size - at) bytes new) ≡ take at bytes ++ new
-    part_put =
-        let k = at + size - at in
-        let ahead = length-append (take at bytes) new ∙ ap (λ (n : ℕ). n + length new) (length-take-le at bytes (omega arith)) in
-        rw (← append_assoc (take at bytes) new (drop k (drop at bytes)))
-        (take_at (take at bytes ++ new) (drop k (drop at bytes)) (at + size) (ahead ∙ ap (λ (n : ℕ). at + n) same))
+    part_put = grind (arith, common_steps)
 
     pub part_left : drop (at + size) (put_mid at (at + size - at) bytes new) ≡ drop (at + size) bytes
     part_left = drop_put at (at + size) bytes new (omega arith) room (same ∙ sym whole)

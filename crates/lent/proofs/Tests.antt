@@ -3,6 +3,8 @@
 use Prim.Native.Nat.{ℕ}
 use mathlib.Core.Path.{◌≡◌, refl, sym, ◌∙◌}
 use mathlib.Core.Bool.{Bool, true, false, not, cond, ◌&&◌, and-eq-true_iff}
+use native.Mathlib.Omega.{arith}
+use Rattle.std.proofs.lemmas.Bool.Decides.{nat_tests}
 use lib.Dec.{eqb}
 use borrow.Author.Tests.{not-true, not-false, eqb-true}
 
@@ -19,12 +21,8 @@ either P true x y f g = f refl
 either P false x y f g = g refl
 
 pub both_equal : (a x b y : ℕ) → eqb a x && eqb b y ≡ true → (a ≡ x) × (b ≡ y)
-both_equal a x b y e =
-    let both = (and-eq-true_iff (eqb a x) (eqb b y)).0 e in
-    (eqb-true a x both.0, eqb-true b y both.1)
+both_equal a x b y e = grind (arith, nat_tests)
 
 pub three_equal :
     (a x b y c z : ℕ) → eqb a x && (eqb b y && eqb c z) ≡ true → (a ≡ x) × ((b ≡ y) × (c ≡ z))
-three_equal a x b y c z e =
-    let parts = (and-eq-true_iff (eqb a x) (eqb b y && eqb c z)).0 e in
-    (eqb-true a x parts.0, both_equal b y c z parts.1)
+three_equal a x b y c z e = grind (arith, nat_tests)

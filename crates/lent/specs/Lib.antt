@@ -1,4 +1,3 @@
 pub mod Lengths
 pub mod Refusals
 pub mod Answer
-pub mod Inner

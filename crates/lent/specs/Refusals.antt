@@ -1,6 +1,8 @@
 -- Document 01, "Numbers of refusal": the table's numbers, 0 for a call that is not refused, and which number wins.
 -- Document 02 adds to them.
-use Rattle.std.specs.Prelude.{ℕ, List, [], ◌∷◌, Bool, false, not, cond, eqb}
+use Rattle.std.specs.Prelude.{ℕ, List, [], ◌∷◌, Bool, false, not, cond, eqb, Result, Ok, Err}
+use Rattle.lent.specs.declared.refusals.Refusal.{Refusal}
+use Rattle.lent.specs.declared.refusals.Refusal.TheVariants.{Length, Address, Port, Code, Place, Edges, Z80Held, InReset, Latch, Viewer}
 
 abbrev pub accepted : ℕ
 accepted = 0
@@ -49,6 +51,24 @@ latch_refused = 9
 -- 02, ticket 7: "10, a viewer over 7"
 abbrev pub viewer_refused : ℕ
 viewer_refused = 10
+
+-- the number of each refusal
+abbrev pub number_of : Refusal → ℕ
+number_of Length = length_refused
+number_of Address = address_refused
+number_of Port = port_refused
+number_of Code = code_refused
+number_of Place = place_refused
+number_of Edges = edges_refused
+number_of Z80Held = z80_held_refused
+number_of InReset = in_reset_refused
+number_of Latch = latch_refused
+number_of Viewer = viewer_refused
+
+-- "A refusal returns its number", and a call that is accepted 0
+abbrev pub answered : {A : Type 0} → Result A Refusal → ℕ
+answered (Ok value) = accepted
+answered (Err refusal) = number_of refusal
 
 -- the numbers in the order in which they win. 01: "The lowest number wins." But 02, ticket 2, has 7 "after 1", and
 -- ticket 3 has 8 "after 1, ahead of 2 to 6", ticket 5 has 9 "after 5 and 6", ticket 7 has 10 "after 9". No call can be

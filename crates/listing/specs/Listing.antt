@@ -6,7 +6,8 @@ use Rattle.machine.specs.Power.{power_up}
 use Rattle.machine.specs.Settings.{columns}
 use Rattle.chain.specs.Chain.{rows}
 use Rattle.records.specs.Record.{record_bytes, start_low_at, kind_at, count_at, torn_count, dark_count}
-use Rattle.picture.specs.Draw.{DrawnPicture, refuse_drawing, draw}
+use Rattle.picture.specs.Draw.{DrawnPicture, drawing_answered, refuse_drawing, draw}
+use Rattle.picture.specs.declared.Drawn.{Drawn}
 use Rattle.ascii.specs.Ascii.{ascii}
 use Rattle.ascii.specs.Numbers.{decimal, hex}
 use Rattle.listing.specs.declared.Listed.{Listed}
@@ -60,14 +61,22 @@ drawing screen attribute beyond picture =
     cond (not (eqb beyond 0)) (refuse_drawing length_refused picture)
     (draw power_up screen attribute picture)
 
--- what listing leaves: its answer, the picture and the text
+-- what listing answers, in numbers
+pub record Answer : Type 0 where
+  pub bytes : ℕ
+  pub drawn : Drawn
+
+-- what it leaves: its answer, the picture and the text
 pub record ListedRows : Type 0 where
-  pub answer : Listed
+  pub answer : Answer
   pub picture : List ℕ
   pub text : List ℕ
 
+abbrev pub rows_listed : Answer → List ℕ → List ℕ → ListedRows
+rows_listed answer picture text = record { answer = answer; picture = picture; text = text }
+
 abbrev pub listed : Listed → List ℕ → List ℕ → ListedRows
-listed answer picture text = record { answer = answer; picture = picture; text = text }
+listed answer = rows_listed (record { bytes = answer.bytes; drawn = drawing_answered answer.drawn })
 
 -- the answer is how many bytes of text there are, and the drawing's own, which names the first wild row: the text does
 -- not
@@ -75,7 +84,7 @@ unfoldable pub list_rows : (screen attribute : List ℕ) → (beyond : ℕ) → 
 list_rows screen attribute beyond picture text =
     let left = drawing screen attribute beyond picture in
     let words = text_of (columns power_up) left in
-    listed (record { bytes = length words; drawn = left.answer }) left.picture (sets text 0 words)
+    rows_listed (record { bytes = length words; drawn = left.answer }) left.picture (sets text 0 words)
 
 -- the bytes of a heading and of a line with each number at its longest, five digits, and room for the longest text
 abbrev pub heading_most : ℕ

@@ -2,18 +2,17 @@
 // out".
 #![tactic(auto)]
 
-ghost use Rattle.std.specs.Prelude.{◌+◌, ◌*◌, ◌≤◌, ◌<◌, ◌≡◌, length, take};
-ghost use Rattle.lent.specs.Lengths.{picture_bytes};
+ghost use Rattle.std.specs.Prelude.{◌*◌, ◌≤◌, ◌<◌, ◌≡◌, length, take};
 ghost use Rattle.chain.specs.Chain.{rows};
-ghost use Rattle.picture.specs.Draw.{drawn as drawn_picture};
-ghost use Rattle.ascii.specs.Inner.{Put};
-ghost use Rattle.listing.specs.Listing.{heading_most, line_most, text_bytes, heading, counted, row_and_start};
-ghost use Rattle.listing.specs.Listing.{line, line_of, lines_to, refused_text, text_of, drawing, listed, list_rows};
+ghost use Rattle.picture.specs.Draw.{drawn as drawn_picture, drawing_answered};
+ghost use Rattle.ascii.specs.Text.{with_words};
+ghost use Rattle.listing.specs.Listing.{text_bytes, heading, counted, line_of, lines_to};
+ghost use Rattle.listing.specs.Listing.{refused_text, text_of, drawing, listed, list_rows};
 
-use ascii::{put, put_byte, put_decimal, put_hex};
-use lent::PICTURE_BYTES;
+use ascii::Text;
+use lent::Refusal;
 use machine::Machine;
-use picture::Drawn;
+use picture::{Drawing, Picture};
 
 // The heading and a line with each number at its longest, five digits.
 const HEADING_MOST: usize = 26;
@@ -24,128 +23,104 @@ pub const TEXT_BYTES: usize = HEADING_MOST + chain::ROWS * LINE_MOST;
 
 // What listing answers: how many bytes of text there are, and the drawing's answer, of which the text says all but the
 // wild row.
-#[derive(Clone, Copy)]
+#[derive(Clone, Copy, Debug, PartialEq, Eq)]
 pub struct Listed {
     pub bytes: usize,
-    pub drawn: Drawn,
+    pub drawn: Result<Drawing, Refusal>,
 }
 
-fn put_heading(text: &mut [u8], columns: u16, reads: u16) -> usize
-    requires { heading_most ≤ length text.old }
-    ensures put { Put text.old 0 (heading columns reads) text.new result }
-    ensures upper_bound { result ≤ heading_most }
+type Lines = Text<TEXT_BYTES>;
+
+#[tactic(auto, using(ascii::proofs::Laws::with_both), unfolding(crate::specs::Listing::heading, ascii::specs::Ascii::ascii))]
+fn put_heading(lines: &mut Lines, columns: u16, reads: u16)
+    ensures { lines.new ≡ with_words text_bytes lines.old (heading columns reads) }
 {
-    let at = put(text, 0, b"columns ");
-    let at = put_decimal(text, at, columns);
-    let at = put(text, at, b" reads ");
-    let at = put_decimal(text, at, reads);
-    put_byte(text, at, b'\n')
+    lines.put("columns ");
+    lines.put_decimal(columns);
+    lines.put(" reads ");
+    lines.put_decimal(reads);
+    lines.put("\n");
 }
 
-fn put_counted(text: &mut [u8], at: usize, count: u8) -> usize
-    requires { at + 5 ≤ length text.old }
-    ensures put { Put text.old at (counted count) text.new result }
-    ensures upper_bound { result ≤ at + 5 }
+#[tactic(auto, using(ascii::proofs::Laws::with_both), unfolding(crate::specs::Listing::counted, ascii::specs::Ascii::ascii))]
+fn put_counted(lines: &mut Lines, count: u8)
+    ensures { lines.new ≡ with_words text_bytes lines.old (counted count) }
 {
     if count == records::TORN {
-        return put(text, at, b"torn");
+        lines.put("torn");
+    } else {
+        lines.put_decimal(u16::from(count));
     }
-    put_decimal(text, at, count as u16)
 }
 
-fn put_row_and_start(text: &mut [u8], at: usize, row: u16, high: u8, low: u8) -> usize
-    requires { at + 10 ≤ length text.old }
-    ensures put { Put text.old at (row_and_start row high low) text.new result }
-    ensures upper_bound { result ≤ at + 10 }
-{
-    let at = put_decimal(text, at, row);
-    let at = put_byte(text, at, b' ');
-    let at = put_hex(text, at, high);
-    put_hex(text, at, low)
-}
-
-fn put_line(text: &mut [u8], at: usize, row: u16, high: u8, low: u8, kind: u8, count: u8) -> usize
-    requires { at + line_most ≤ length text.old }
-    ensures put { Put text.old at (line row high low kind count) text.new result }
-    ensures upper_bound { result ≤ at + line_most }
-{
-    let at = put_row_and_start(text, at, row, high, low);
-    let at = put_byte(text, at, b' ');
-    let at = put_decimal(text, at, kind as u16);
-    let at = put_byte(text, at, b' ');
-    let at = put_counted(text, at, count);
-    put_byte(text, at, b'\n')
-}
-
-fn put_row(picture: &[u8], row: usize, text: &mut [u8], at: usize) -> usize
-    requires picture_len { (length picture.now ≡ picture_bytes) × (row < rows) }
-    requires line_most_in_bounds { at + line_most ≤ length text.old }
-    ensures put { Put text.old at (line_of picture.now row) text.new result }
-    ensures upper_bound { result ≤ at + line_most }
+#[tactic(auto, using(ascii::proofs::Laws::with_both, ascii::proofs::Laws::with_none), unfolding(crate::specs::Listing::line_of, crate::specs::Listing::line, crate::specs::Listing::row_and_start, ascii::specs::Ascii::ascii))]
+fn put_row(lines: &mut Lines, picture: &Picture, row: usize)
+    requires { row < rows }
+    ensures { lines.new ≡ with_words text_bytes lines.old (line_of picture.now row) }
 {
     let head = row * records::RECORD_BYTES;
     let count = picture[head + records::COUNT_AT];
     if count == records::DARK {
-        return at;
+        return;
     }
-    put_line(
-        text,
-        at,
-        row as u16,
-        picture[head],
-        picture[head + records::START_LOW_AT],
-        picture[head + records::KIND_AT],
-        count,
-    )
+    lines.put_decimal(row as u16);
+    lines.put(" ");
+    lines.put_hex(picture[head]);
+    lines.put_hex(picture[head + records::START_LOW_AT]);
+    lines.put(" ");
+    lines.put_decimal(u16::from(picture[head + records::KIND_AT]));
+    lines.put(" ");
+    put_counted(lines, count);
+    lines.put("\n");
 }
 
-fn put_rows(picture: &[u8], text: &mut [u8], at: usize) -> usize
-    requires picture_len { length picture.now ≡ picture_bytes }
-    requires line_most_in_bounds { at + rows * line_most ≤ length text.old }
-    ensures put { Put text.old at (lines_to picture.now rows) text.new result }
-    ensures upper_bound { result ≤ at + rows * line_most }
+#[tactic(auto, using(ascii::proofs::Laws::with_both, ascii::proofs::Laws::with_none), unfolding(crate::specs::Listing::lines_to))]
+fn put_rows(lines: &mut Lines, picture: &Picture)
+    ensures { lines.new ≡ with_words text_bytes lines.old (lines_to picture.now rows) }
 {
-    let mut end = at;
-    let mut row = 0;
-    while row < chain::ROWS {
-        end = put_row(picture, row, text, end);
-        row += 1;
+    for row in 0..chain::ROWS {
+        put_row(lines, picture, row);
     }
-    end
 }
 
-fn put_refused(text: &mut [u8], number: u8) -> usize
-    requires { heading_most ≤ length text.old }
-    ensures put { Put text.old 0 (refused_text number) text.new result }
-    ensures upper_bound { result ≤ heading_most }
+#[tactic(auto, using(ascii::proofs::Laws::with_both), unfolding(crate::specs::Listing::refused_text, ascii::specs::Ascii::ascii))]
+fn put_refused(lines: &mut Lines, number: u8)
+    ensures { lines.new ≡ with_words text_bytes lines.old (refused_text number) }
 {
-    let at = put(text, 0, b"refused ");
-    let at = put_decimal(text, at, number as u16);
-    put_byte(text, at, b'\n')
+    lines.put("refused ");
+    lines.put_decimal(u16::from(number));
+    lines.put("\n");
 }
 
-fn put_drawn(columns: u16, drawn: Drawn, picture: &[u8], text: &mut [u8]) -> usize
-    requires picture_len { length picture.now ≡ picture_bytes }
-    requires text_bytes_in_bounds { text_bytes ≤ length text.old }
-    ensures put { Put text.old 0 (text_of columns (drawn_picture drawn picture.now))
-        text.new result }
-    ensures upper_bound { result ≤ text_bytes }
+#[tactic(auto, using(ascii::proofs::Laws::with_both), unfolding(crate::specs::Listing::text_of))]
+fn put_drawn(lines: &mut Lines, columns: u16, drawn: Result<Drawing, Refusal>, picture: &Picture)
+    ensures { lines.new
+        ≡ with_words text_bytes lines.old
+        (text_of columns (drawn_picture (drawing_answered drawn) picture.now)) }
 {
-    if drawn.refusal != lent::ACCEPTED {
-        return put_refused(text, drawn.refusal);
+    match drawn {
+        Ok(drawing) => {
+            put_heading(lines, columns, drawing.reads);
+            put_rows(lines, picture);
+        }
+        Err(refusal) => put_refused(lines, refusal.number()),
     }
-    let at = put_heading(text, columns, drawn.reads);
-    put_rows(picture, text, at)
 }
 
 // The drawing of what was read. `beyond` bytes came after the two memories: none, or the input was
 // too long.
-fn draw_read(screen: &[u8], attribute: &[u8], beyond: usize, picture: &mut [u8]) -> Drawn
-    ensures { drawn_picture result picture.new
+#[tactic(auto, unfolding(crate::specs::Listing::drawing))]
+fn draw_read(
+    screen: &[u8],
+    attribute: &[u8],
+    beyond: usize,
+    picture: &mut Picture,
+) -> Result<Drawing, Refusal>
+    ensures { drawn_picture (drawing_answered result) picture.new
         ≡ drawing screen.now attribute.now beyond picture.old }
 {
     if beyond != 0 {
-        return Drawn::refused(lent::LENGTH);
+        return Err(Refusal::Length);
     }
     picture::draw(Machine::power_up(), screen, attribute, picture)
 }
@@ -155,7 +130,7 @@ pub fn list_rows(
     screen: &[u8],
     attribute: &[u8],
     beyond: usize,
-    picture: &mut [u8; PICTURE_BYTES],
+    picture: &mut Picture,
     text: &mut [u8; TEXT_BYTES],
 ) -> Listed
     ensures text_after { listed result picture.new text.new
@@ -166,6 +141,8 @@ pub fn list_rows(
 {
     let drawn = draw_read(screen, attribute, beyond, picture);
     let columns = Machine::power_up().columns() as u16;
-    let bytes = put_drawn(columns, drawn, picture, text);
+    let mut lines = Text::new();
+    put_drawn(&mut lines, columns, drawn, picture);
+    let bytes = lines.copy_to(text);
     Listed { bytes, drawn }
 }

@@ -3,16 +3,20 @@
 #![tactic(auto)]
 
 ghost use Rattle.std.specs.Prelude.{◌≡◌};
+ghost use Rattle.lent.specs.Refusals.{answered};
 ghost use Rattle.machine.specs.Power.{power_up, vertical_tick};
 ghost use Rattle.machine.specs.Settings.{columns, scroll_latch, z80_runs, blanked, graphics};
 ghost use Rattle.machine.specs.Watchdog.{watchdog_tick};
 ghost use Rattle.machine.specs.Stopped.{stop_of_8088, stop_of_z80};
+ghost use Rattle.machine.specs.Written.{written};
+
+use lent::Refusal;
 
 // Reset begins at this tick after the last acknowledgement, and ends at this tick after it began.
 const WATCH_TICKS: u8 = 128;
 
 #[repr(C)]
-#[derive(Clone, Copy)]
+#[derive(Clone, Copy, Debug, PartialEq, Eq)]
 pub struct Machine {
     // 132 columns, else 80.
     pub columns132: bool,
@@ -40,10 +44,28 @@ pub struct Machine {
 // The answer of a write to a port: the machine afterwards, which is the machine before where the
 // write is refused.
 #[repr(C)]
-#[derive(Clone, Copy)]
+#[derive(Clone, Copy, Debug, PartialEq, Eq)]
 pub struct Written {
     pub refusal: u8,
     pub machine: Machine,
+}
+
+impl Written {
+    // What a write to a port tells C.
+    pub fn told(before: Machine, outcome: Result<Machine, Refusal>) -> Written
+        ensures { result ≡ written before outcome }
+    {
+        match outcome {
+            Ok(machine) => Written {
+                refusal: lent::ACCEPTED,
+                machine,
+            },
+            Err(refusal) => Written {
+                refusal: refusal.number(),
+                machine: before,
+            },
+        }
+    }
 }
 
 impl Machine {
@@ -93,18 +115,24 @@ impl Machine {
         self
     }
 
-    // By what an access of the 8088 is refused while it is in reset, or 0.
-    pub fn stop_of_8088(self) -> u8
-        ensures { result ≡ stop_of_8088 self }
+    // Every access of the 8088 is refused while it is in reset.
+    pub fn stop_of_8088(self) -> Result<(), Refusal>
+        ensures { answered result ≡ stop_of_8088 self }
     {
-        lent::number_if(self.reset, lent::IN_RESET)
+        if self.reset {
+            return Err(Refusal::InReset);
+        }
+        Ok(())
     }
 
-    // By what an access of the Z80 is refused while it is held, or 0.
-    pub fn stop_of_z80(self) -> u8
-        ensures { result ≡ stop_of_z80 self }
+    // Every access of the Z80 is refused while it is held.
+    pub fn stop_of_z80(self) -> Result<(), Refusal>
+        ensures { answered result ≡ stop_of_z80 self }
     {
-        lent::number_if(!self.z80_runs(), lent::Z80_HELD)
+        if !self.z80_runs() {
+            return Err(Refusal::Z80Held);
+        }
+        Ok(())
     }
 
     // How many columns the screen is set to: 80 or 132.

@@ -6,12 +6,12 @@ use mathlib.Core.Bool.{Bool, true, false, cond, ◌||◌}
 use native.Mathlib.Nat.{add_comm, two-pow-succ, zero-mul}
 use native.Mathlib.Numerals.{add-one}
 use native.Mathlib.Omega.{arith}
+use Rattle.std.proofs.lemmas.Bool.Decides.{nat_tests}
 use lib.Bits.{bit_or, or_block}
 use Rattle.marks.specs.Marks.{marked, marks_to, joined}
 
 marked_under : (marks row : ℕ) (test : Bool) → marks < 2 ^ row → marked marks row test < 2 ^ (row + 1)
-marked_under marks row true h = rw (add-one, two-pow-succ) (omega arith)
-marked_under marks row false h = rw (add-one, two-pow-succ) (omega arith)
+marked_under marks row test h = rw (add-one, two-pow-succ) (grind (arith, nat_tests))
 
 pub marks_under : (test : ℕ → Bool) (rows : ℕ) → marks_to test rows < 2 ^ rows
 unfolding marks_to

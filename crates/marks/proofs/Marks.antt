@@ -4,6 +4,7 @@ use mathlib.Core.Path.{◌≡◌, refl}
 use mathlib.Core.Bool.{Bool, true, false, cond, ◌||◌}
 use native.Mathlib.Nat.{zero-div, pow-suc, pow-succ', mul_assoc, div-div-eq-div-mul, div-one, mul-add-mod_self_right}
 use native.Mathlib.Omega.{arith}
+use Rattle.std.proofs.lemmas.Bool.Decides.{nat_tests}
 use lib.Dec.{eqb, leb-zero, leb-suc-zero, leb-suc-suc}
 use lib.Bits.{bit_or, or_shr, or_mod}
 use Rattle.marks.specs.Marks.{bit_set, marks_to, BitByBit, JoinedBitByBit}
@@ -19,12 +20,10 @@ low_first test (suc rows) =
 
 module _ (above : ℕ) where
   half : (bit : Bool) → (above * 2 + cond bit 1 0) / 2 ≡ above
-  half true = omega arith
-  half false = omega arith
+  half bit = grind (arith, nat_tests)
 
   odd : (bit : Bool) → eqb ((above * 2 + cond bit 1 0) % 2) 1 ≡ bit
-  odd true = rw mul-add-mod_self_right
-  odd false = rw mul-add-mod_self_right
+  odd bit = grind (arith, nat_tests)
 
 pub bit_by_bit : BitByBit
 unfolding bit_set marks_to

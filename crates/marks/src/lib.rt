@@ -27,11 +27,9 @@ pub fn join(one: u32, other: u32) -> u32
 
 // Whether a row is among the marks of a store. It asks for a bit of a number, so no row is refused: one over 24 is
 // never marked.
+#[tactic(auto, unfolding(crate::specs::Marks::bit_set))]
 pub fn is_marked(marks: u32, row: usize) -> bool
     ensures { result ≡ bit_set marks row }
 {
-    if row >= BITS {
-        return false;
-    }
-    marks >> row & 1 == 1
+    row < BITS && marks >> row & 1 == 1
 }

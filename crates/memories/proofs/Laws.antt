@@ -1,62 +1,54 @@
 -- Laws about what the two processors see: when a range holds an address, what the lengths tell, that a place seen lies
 -- in its memory, and by what a store is refused.
-use Prim.Native.Nat.{ℕ, ◌+◌, ◌-◌, ◌≤◌, ◌<◌}
+use Prim.Native.Nat.{ℕ, ◌+◌, ◌≤◌, ◌<◌}
 use mathlib.Core.Path.{◌≡◌, refl, subst, sym, ◌∙◌}
 use mathlib.Core.List.{List}
-use mathlib.Core.Bool.{Bool, true, false, not, cond, ◌&&◌, and-false, and-eq-true_iff, true≢false}
+use mathlib.Core.Bool.{Bool, true, false, cond}
 use native.Mathlib.Omega.{arith}
-use lib.Dec.{leb, eqb}
-use borrow.Author.Tests.{not-false, eqb-true, le-leb, lt-leb, leb-true, lt-ltb, le-ltb}
+use Rattle.std.specs.Prelude.{Option, Some, None}
+use Rattle.std.proofs.lemmas.Bool.Decides.{nat_tests}
+use lib.Dec.{eqb}
+use borrow.Author.Tests.{not-false, eqb-true, lt-ltb, le-ltb}
 use Rattle.lent.specs.Lengths.{shared_bytes, screen_bytes, attribute_bytes, private_bytes}
-use Rattle.lent.specs.Refusals.{accepted, refuses, length_refused, address_refused, z80_held_refused, in_reset_refused}
+use Rattle.lent.specs.Refusals.{accepted, refuses, length_refused, z80_held_refused, in_reset_refused}
 use Rattle.lent.proofs.Order.{by_stop_or_1}
-use Rattle.lent.proofs.Tests.{either, both_equal, three_equal}
+use Rattle.lent.proofs.Tests.{either}
 use Rattle.machine.specs.Settings.{z80_runs}
 use Rattle.machine.specs.declared.Machine.{Machine}
-use Rattle.memories.specs.View8088.{within, seen_8088, lengths_8088, is_nowhere, refused_access, refusal_8088, Stored8088, store_seen, store_8088}
+use Rattle.memories.specs.View8088.{within, seen_8088, lengths_8088, refused_access, refusal_8088, Stored8088, store_seen, store_8088}
 use Rattle.memories.specs.ViewZ80.{lengths_z80, refusal_z80, shared_from, is_private}
 use Rattle.memories.specs.declared.view8088.Seen.{Seen}
-use Rattle.memories.specs.declared.view8088.Seen.TheVariants.{Shared, Screen, Attribute, Nowhere}
+use Rattle.memories.specs.declared.view8088.Seen.TheVariants.{Shared, Screen, Attribute}
 
 module _ (first last a : ℕ) where
   pub inside : first ≤ a → a ≤ last → within first last a ≡ true
   unfolding within
-  inside h k = rw (le-leb first a h, le-leb a last k)
+  inside h k = grind (arith, nat_tests)
 
   pub under : a < first → within first last a ≡ false
   unfolding within
-  under h = rw (lt-leb first a h)
+  under h = grind (arith, nat_tests)
 
   pub over : last < a → within first last a ≡ false
   unfolding within
-  over h = rw (lt-leb a last h) (and-false (leb first a))
+  over h = grind (arith, nat_tests)
 
   pub told : within first last a ≡ true → (first ≤ a) × (a ≤ last)
   unfolding within
-  told e =
-      let both = (and-eq-true_iff (leb first a) (leb a last)).0 e in
-      (leb-true first a both.0, leb-true a last both.1)
+  told e = grind (arith, nat_tests)
 
 -- the place that is seen lies in its memory, as far from the memory's first place as the address from its first address
-abbrev pub Lies : ℕ → Seen → Type 0
-Lies a (Shared place) = (place < shared_bytes) × (a ≡ 0x00000 + place)
-Lies a (Screen place) = (place < screen_bytes) × (a ≡ 0xEE000 + place)
-Lies a (Attribute place) = (place < attribute_bytes) × (a ≡ 0xEF000 + place)
-Lies a Nowhere = Unit {0}
+abbrev pub Lies : ℕ → Option Seen → Type 0
+Lies a (Some (Shared place)) = (place < shared_bytes) × (a ≡ 0x00000 + place)
+Lies a (Some (Screen place)) = (place < screen_bytes) × (a ≡ 0xEE000 + place)
+Lies a (Some (Attribute place)) = (place < attribute_bytes) × (a ≡ 0xEF000 + place)
+Lies a None = Unit {0}
 
 lies : (a : ℕ) → Lies a (seen_8088 a)
-unfolding seen_8088
-lies a = go (within 0x00000 0x0FFFF a) (within 0xEE000 0xEEFFF a) (within 0xEF000 0xEFFFF a) refl refl refl
-  where
-    go :
-        (x y z : Bool) → within 0x00000 0x0FFFF a ≡ x → within 0xEE000 0xEEFFF a ≡ y → within 0xEF000 0xEFFFF a ≡ z
-        → Lies a (cond x (Shared a) (cond y (Screen (a - 0xEE000)) (cond z (Attribute (a - 0xEF000)) Nowhere)))
-    go true y z h i j = omega (arith, told 0x00000 0x0FFFF a h)
-    go false true z h i j = omega (arith, told 0xEE000 0xEEFFF a i)
-    go false false true h i j = omega (arith, told 0xEF000 0xEFFFF a j)
-    go false false false h i j = tt
+unfolding seen_8088 within
+lies a = grind (arith, nat_tests)
 
-pub placed : (a : ℕ) {answer seen : Seen} → answer ≡ seen_8088 a → answer ≡ seen → Lies a seen
+pub placed : (a : ℕ) {answer seen : Option Seen} → answer ≡ seen_8088 a → answer ≡ seen → Lies a seen
 placed a e h = subst (Lies a) (sym e ∙ h) (lies a)
 
 -- the lengths are those of the list where the test holds
@@ -64,8 +56,7 @@ pub lent_8088 :
     {shared screen attribute : ℕ} → lengths_8088 shared screen attribute ≡ true
     → (shared ≡ shared_bytes) × ((screen ≡ screen_bytes) × (attribute ≡ attribute_bytes))
 unfolding lengths_8088
-lent_8088 {shared} {screen} {attribute} =
-    three_equal shared shared_bytes screen screen_bytes attribute attribute_bytes
+lent_8088 e = grind (arith, nat_tests)
 
 -- what is known of an access of the 8088 by the number that it is answered
 module _ (m : Machine) (lengths : Bool) (address : ℕ) {answer : ℕ} (e : answer ≡ refused_access m lengths address) where
@@ -75,29 +66,13 @@ module _ (m : Machine) (lengths : Bool) (address : ℕ) {answer : ℕ} (e : answ
   -- the lengths are right where it is not refused by 1
   pub right_8088 : (answer ≡ length_refused → ⊥) → lengths ≡ true
   unfolding refused_access
-  right_8088 h = go lengths e
-    where
-      go :
-          (right : Bool)
-          → answer ≡ cond (not right) length_refused (cond m.reset in_reset_refused (cond (is_nowhere (seen_8088 address)) address_refused accepted))
-          → right ≡ true
-      go true g = refl
-      go false g = absurd (h g)
+  right_8088 h = grind (arith, nat_tests)
 
 -- an access that is not refused is made out of reset, with the right lengths
 module _ (m : Machine) (lengths : Bool) (address : ℕ) (h : refuses (refused_access m lengths address) ≡ false) where
   pub accepted_right : (lengths ≡ true) × (m.reset ≡ false)
   unfolding refused_access
-  accepted_right = go lengths m.reset h
-    where
-      go :
-          (right reset : Bool)
-          → refuses (cond (not right) length_refused (cond reset in_reset_refused (cond (is_nowhere (seen_8088 address)) address_refused accepted)))
-          ≡ false
-          → (right ≡ true) × (reset ≡ false)
-      go true true e = absurd (true≢false e)
-      go true false e = (refl, refl)
-      go false reset e = absurd (true≢false e)
+  accepted_right = grind (arith, nat_tests)
 
 -- of the machine it goes by reset
 pub access_by_reset :
@@ -118,14 +93,7 @@ pub lent_z80 :
     (m : Machine) (private shared : ℕ) {answer : ℕ} → answer ≡ refusal_z80 m private shared → (answer ≡ length_refused → ⊥)
     → (private ≡ private_bytes) × (shared ≡ shared_bytes)
 unfolding lengths_z80 refusal_z80
-lent_z80 m private shared {answer} e h = go (eqb private private_bytes && eqb shared shared_bytes) refl e
-  where
-    go :
-        (right : Bool) → eqb private private_bytes && eqb shared shared_bytes ≡ right
-        → answer ≡ cond (not right) length_refused (cond (not (z80_runs m)) z80_held_refused accepted)
-        → (private ≡ private_bytes) × (shared ≡ shared_bytes)
-    go true f g = both_equal private private_bytes shared shared_bytes f
-    go false f g = absurd (h g)
+lent_z80 m private shared e h = grind (arith, nat_tests)
 
 pub accepted_z80 :
     (m : Machine) (private shared : ℕ) {answer : ℕ} → answer ≡ refusal_z80 m private shared → answer ≡ accepted
@@ -159,11 +127,11 @@ is_accepted refusal h = eqb-true refusal accepted (not-false (eqb refusal accept
 
 -- a byte that is stored somewhere is accepted
 pub seen_accepted :
-    (seen : Seen) (shared screen attribute : List ℕ) (byte : ℕ) → (store_seen seen shared screen attribute byte).refusal ≡ accepted
-seen_accepted (Shared place) shared screen attribute byte = refl
-seen_accepted (Screen place) shared screen attribute byte = refl
-seen_accepted (Attribute place) shared screen attribute byte = refl
-seen_accepted Nowhere shared screen attribute byte = refl
+    (seen : Option Seen) (shared screen attribute : List ℕ) (byte : ℕ) → (store_seen seen shared screen attribute byte).refusal ≡ accepted
+seen_accepted (Some (Shared place)) shared screen attribute byte = refl
+seen_accepted (Some (Screen place)) shared screen attribute byte = refl
+seen_accepted (Some (Attribute place)) shared screen attribute byte = refl
+seen_accepted None shared screen attribute byte = refl
 
 -- the number that a store answers is that of the access
 pub store_refusal :

@@ -4,14 +4,15 @@ use mathlib.Core.Path.{◌≡◌, refl}
 use mathlib.Core.List.{List}
 use mathlib.Core.Bool.{Bool, true, false, not, cond}
 use native.Mathlib.Omega.{arith}
-use lib.ListN.{length, get_or, set, length-set}
+use lib.ListN.{length, set, length-set}
 use lib.Seq.{get_or-set_same, get_or-set_other}
-use lib.Dec.{eqb}
-use borrow.Author.Tests.{eqb-true, eqb-false, ltb-true}
+use Rattle.std.specs.Prelude.{Some, None}
+use Rattle.std.proofs.lemmas.Bool.Decides.{nat_tests}
+use borrow.Author.Tests.{ltb-true}
 use Rattle.lent.specs.Lengths.{shared_bytes, private_bytes, screen_bytes, attribute_bytes}
 use Rattle.memories.specs.View8088.{within, seen_8088, store_seen, Stored8088}
 use Rattle.memories.specs.ViewZ80.{refusal_z80, shared_from, is_private, StoredZ80, stored_z80}
-use Rattle.memories.specs.declared.view8088.Seen.TheVariants.{Shared, Screen, Attribute, Nowhere}
+use Rattle.memories.specs.declared.view8088.Seen.TheVariants.{Shared, Screen, Attribute}
 use Rattle.memories.specs.OneByte.{OnlyAt, ChangesTheOneByte, ChangesOneByte}
 use Rattle.memories.proofs.Laws.{told, lent_8088, lent_z80, is_accepted, accepted_right}
 
@@ -21,11 +22,7 @@ private_below a h = ltb-true a shared_from h
 
 module _ (l : List ℕ) (i v : ℕ) where
   stored : i < length l → OnlyAt true i v l (set l i v)
-  stored h = (length-set l i v, λ place. go place (eqb place i) refl)
-    where
-      go : (place : ℕ) (b : Bool) → eqb place i ≡ b → get_or (set l i v) place 0 ≡ cond b v (get_or l place 0)
-      go place true e = rw (eqb-true place i e) (get_or-set_same l i v 0 h)
-      go place false e = get_or-set_other l i place v 0 (eqb-false place i e)
+  stored h = (length-set l i v, λ place. grind (arith, nat_tests, get_or-set_same l i v 0 h, get_or-set_other l i place v 0))
 
   kept : OnlyAt false i v l l
   kept = (refl, λ place. refl)
@@ -41,7 +38,7 @@ changes_the_one_byte m shared screen attribute address byte accepts =
     left : (x y z : Bool) → Stored8088
     left x y z =
         store_seen
-        (cond x (Shared address) (cond y (Screen (address - 0xEE000)) (cond z (Attribute (address - 0xEF000)) Nowhere))) shared screen
+        (cond x (Some (Shared address)) (cond y (Some (Screen (address - 0xEE000))) (cond z (Some (Attribute (address - 0xEF000))) None))) shared screen
         attribute byte
 
     go :

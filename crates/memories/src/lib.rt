@@ -4,5 +4,5 @@
 pub mod view8088;
 pub mod viewz80;
 
-pub use view8088::{Seen, lengths_8088, read_8088, refusal_8088, seen_8088, store_8088};
+pub use view8088::{Seen, access_8088, read_8088, seen_8088, store_8088};
 pub use viewz80::{read_z80, store_z80};

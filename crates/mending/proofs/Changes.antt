@@ -6,6 +6,8 @@ use mathlib.Core.List.{List}
 use mathlib.Core.Bool.{Bool, true, false, not, ◌&&◌, true≢false}
 use lib.ListN.{length}
 use lib.Dec.{ltb}
+use Rattle.std.specs.Str.{bytes_eq}
+use Rattle.std.proofs.lemmas.Slice.Eq.{bytes_eq-Decides}
 use borrow.Author.Tests.{lt-ltb, le-ltb, not-true, not-false}
 use Rattle.lent.specs.Lengths.{picture_bytes}
 use Rattle.lent.specs.Refusals.{refuses}
@@ -18,11 +20,10 @@ use Rattle.picture.proofs.Laws.{columns_fit}
 use Rattle.marks.specs.Marks.{bit_set}
 use Rattle.marks.proofs.Marks.{bit_by_bit}
 use Rattle.readers.specs.Readers.{first_reader}
-use Rattle.mending.specs.Mending.{same_bytes, changed, marks_of}
+use Rattle.mending.specs.Mending.{changed, marks_of}
 use Rattle.mending.specs.Store.{StoredWithPicture, refusal_with_picture, mend_from, store_with_picture}
 use Rattle.mending.specs.Changes.{LeavesAhead, MarksTheChanged}
-use Rattle.mending.proofs.Same.{same_self, same_true}
-use Rattle.mending.proofs.Laws.{record_stays}
+use Rattle.mending.proofs.Laws.{same_self, record_stays}
 use Rattle.mending.proofs.Outcome.{unchanged, accepts, refused_outcome, mended_outcome}
 
 -- marks that are those of a picture before and after mark a row exactly when its record changed, and never a bit that is
@@ -42,10 +43,10 @@ module _ (before after : List ℕ) {marks : ℕ} (told : marks ≡ marks_of befo
       × ((row < rows → bit_set marks row ≡ false → new ≡ old) × (rows ≤ row → bit_set marks row ≡ false))
   exactly_the_changed = (
     λ under is same.
-        let changes : not (same_bytes old new) ≡ true = rw (marked_as, lt-ltb row rows under) at is in
-        true≢false (sym (same_self old) ∙ ap (same_bytes old) (sym same) ∙ not-true (same_bytes old new) changes),
+        let changes : not (bytes_eq old new) ≡ true = rw (marked_as, lt-ltb row rows under) at is in
+        true≢false (sym (same_self old) ∙ ap (bytes_eq old) (sym same) ∙ not-true (bytes_eq old new) changes),
     (
-      λ under is. sym (same_true old new (not-false (same_bytes old new) (rw (marked_as, lt-ltb row rows under) at is))),
+      λ under is. sym ((bytes_eq-Decides old new).0 (not-false (bytes_eq old new) (rw (marked_as, lt-ltb row rows under) at is))),
       λ over. rw (marked_as, le-ltb row rows over),
     ),
   )

@@ -1,12 +1,14 @@
 -- Laws about the mended picture: its records, and that those ahead of f stay and are not marked.
 use Prim.Native.Nat.{ℕ, ◌*◌, ◌≤◌, ◌<◌}
-use mathlib.Core.Path.{◌≡◌, ◌∙◌}
+use mathlib.Core.Path.{◌≡◌, refl, ◌∙◌}
 use mathlib.Core.List.{List}
 use mathlib.Core.Bool.{Bool, true, false, cond}
 use native.Mathlib.Omega.{arith}
 use lib.ListN.{length, take, drop, length-drop}
 use lib.Seq.{length-take-le}
 use lib.Dec.{ltb}
+use Rattle.std.specs.Str.{bytes_eq}
+use Rattle.std.proofs.lemmas.Slice.Eq.{bytes_eq-Decides}
 use borrow.Author.Tests.{lt-ltb}
 use Rattle.lent.specs.Lengths.{picture_bytes}
 use Rattle.chain.specs.Chain.{Chain, rows}
@@ -15,7 +17,10 @@ use Rattle.picture.specs.Picture.{record_at, record_in}
 use Rattle.picture.proofs.Records.{records_length, record_in_order}
 use Rattle.picture.proofs.Sizes.{records_sized}
 use Rattle.mending.specs.Mending.{mended_record, mended, changed}
-use Rattle.mending.proofs.Same.{same_self}
+
+-- bytes are the same as themselves
+pub same_self : (xs : List ℕ) → bytes_eq xs xs ≡ true
+same_self xs = (bytes_eq-Decides xs xs).1 refl
 
 module _ (c : Chain) (f : ℕ) (old : List ℕ) (wide : c.columns ≤ record_pairs) (long : length old ≡ picture_bytes) where
   record_sized : (row : ℕ) → row < rows → length (mended_record c f old row) ≡ record_bytes

@@ -1,5 +1,3 @@
-pub mod Same
-pub mod Bytes
 pub mod Laws
 pub mod Walk
 pub mod Outcome

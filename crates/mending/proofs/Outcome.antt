@@ -8,27 +8,29 @@ use native.Mathlib.Omega.{arith}
 use lib.ListN.{length}
 use lib.Dec.{eqb}
 use borrow.Author.Tests.{eqb-true}
-use Rattle.lent.specs.Lengths.{picture_bytes}
+use Rattle.std.specs.Prelude.{Option, Some, None}
+use Rattle.lent.specs.Lengths.{shared_bytes, screen_bytes, attribute_bytes, picture_bytes}
 use Rattle.lent.specs.Refusals.{accepted, refuses}
-use Rattle.machine.specs.Settings.{columns}
 use Rattle.machine.specs.declared.Machine.{Machine}
 use Rattle.memories.specs.View8088.{lengths_8088, seen_8088, refused_access, refusal_8088, Stored8088, stored_8088, store_seen}
 use Rattle.memories.specs.declared.view8088.Seen.{Seen}
-use Rattle.memories.specs.declared.view8088.Seen.TheVariants.{Shared, Screen, Attribute, Nowhere}
-use Rattle.memories.proofs.Laws.{Lies, placed, accepted_right}
-use Rattle.chain.specs.Chain.{Chain, chain, rows, row_at}
+use Rattle.memories.proofs.Laws.{accepted_right}
+use Rattle.chain.specs.Chain.{Chain, rows, row_at}
+use Rattle.chain.specs.Inner.{ahead_of}
 use Rattle.chain.proofs.Alike.{rows_are_what_they_read}
 use Rattle.picture.specs.Picture.{record_in}
 use Rattle.marks.proofs.Laws.{none_marked}
 use Rattle.readers.specs.Readers.{first_reader}
-use Rattle.readers.specs.Inner.{InMemory, Comes, Found}
+use Rattle.readers.specs.Inner.{found}
 use Rattle.readers.specs.Stored.{chain_stored}
 use Rattle.readers.specs.declared.Reader.{Reader}
-use Rattle.readers.proofs.Readers.{is_first}
+use Rattle.readers.proofs.Readers.{is_first, reader_found, none_reads}
 use Rattle.readers.proofs.Stored.{unread_leaves}
-use Rattle.mending.specs.Mending.{mended, changed, marks_of}
+use Rattle.mending.proofs.Walk.{none_mended}
+use Rattle.picture.specs.Draw.{chain_of}
+use Rattle.mending.specs.Mending.{changed, marks_of}
 use Rattle.mending.specs.Store.{lengths_with_picture, stored_with_picture, refusal_with_picture, refuse_with_picture, mend_with_picture, store_with_picture}
-use Rattle.mending.proofs.Same.{same_self}
+use Rattle.mending.proofs.Laws.{same_self}
 
 -- the lengths are those of the list where the test holds
 pub lent_with_picture :
@@ -38,35 +40,27 @@ unfolding lengths_with_picture
 lent_with_picture shared screen attribute picture =
     (and-eq-true_iff (lengths_8088 shared screen attribute) (eqb picture picture_bytes)).0
 
--- what the 8088 sees of screen and attribute memory lies in them
-pub in_memory : (address : ℕ) {seen : Seen} → seen ≡ seen_8088 address → InMemory seen
-in_memory address {seen} e = go seen (placed address e refl)
-  where
-    go : (one : Seen) → Lies address one → InMemory one
-    go (Shared place) h = tt
-    go (Screen place) h = h.0
-    go (Attribute place) h = h.0
-    go Nowhere h = tt
-
 -- the walk after the store comes to f as the walk before it did
 comes_after :
-    (c : Chain) (seen : Seen) (byte : ℕ) (shared : List ℕ) {reader : Reader} → Found c seen reader
-    → Comes (chain_stored c seen byte shared) reader
-comes_after c seen byte shared {reader} found more =
+    (c : Chain) (seen : Option Seen) (byte : ℕ) (shared : List ℕ) (reader : Reader) → Some reader ≡ found c seen
+    → reader.ahead ≡ ahead_of (chain_stored c seen byte shared) reader.row
+comes_after c seen byte shared reader e =
     let d = chain_stored c seen byte shared in
     let unread = (is_first c seen).1.1 in
-    found.comes more
+    let here = reader_found c seen reader e in
+    here.1.1
     ∙ sym (rows_are_what_they_read c d reader.row
-    (λ row h. unread_leaves c seen byte shared (row_at c row) (unread row (omega (arith, found.first))))).0
+    (λ row h. unread_leaves c seen byte shared (row_at c row) (unread row (omega (arith, here.0))))).0
 
 pub comes_stored :
-    (n : ℕ) (shared screen attribute : List ℕ) (address byte : ℕ) {shared' screen' attribute' : List ℕ} {seen : Seen}
-    {reader : Reader}
-    → stored_8088 accepted shared' screen' attribute' ≡ store_seen (seen_8088 address) shared screen attribute byte
-    → seen ≡ seen_8088 address → Found (chain n screen attribute) seen reader → Comes (chain n screen' attribute') reader
-comes_stored n shared screen attribute address byte {seen = seen} stored sees found =
-    rw (ap (λ (s : Stored8088). s.screen) stored, ap (λ (s : Stored8088). s.attribute) stored, ← sees)
-    (comes_after (chain n screen attribute) seen byte shared found)
+    (m : Machine) (seen : Option Seen) (reader : Reader) (shared screen attribute : List ℕ) (byte : ℕ)
+    {shared' screen' attribute' : List ℕ} {before after : Chain} → before ≡ chain_of m screen attribute
+    → after ≡ chain_of m screen' attribute'
+    → stored_8088 accepted shared' screen' attribute' ≡ store_seen seen shared screen attribute byte
+    → Some reader ≡ found before seen → reader.ahead ≡ ahead_of after reader.row
+comes_stored m seen reader shared screen attribute byte was is stored e =
+    rw (is, ap (λ (s : Stored8088). s.screen) stored, ap (λ (s : Stored8088). s.attribute) stored)
+    (comes_after (chain_of m screen attribute) seen byte shared reader (rw was at e))
 
 -- a picture that stays has no marks
 pub unchanged : (picture : List ℕ) → marks_of picture picture ≡ 0
@@ -95,24 +89,33 @@ module _ (m : Machine) (shared screen attribute picture : List ℕ) (address byt
         subst (λ (b : Bool). refuses (refused_access m b address) ≡ false) (right ∙ sym lent.0) h,
       )
 
-  -- what the steps of the code left
-  pub outcome :
-      {n f marks : ℕ} {seen : Seen} {shared' screen' attribute' picture' : List ℕ} → refuses refusal ≡ false
-      → n ≡ columns m → seen ≡ seen_8088 address → f ≡ first_reader (chain n screen attribute) seen
-      → stored_8088 accepted shared' screen' attribute' ≡ store_seen (seen_8088 address) shared screen attribute byte
-      → (marks ≡ marks_of picture (mended (chain n screen' attribute') f picture))
-      × (picture' ≡ mended (chain n screen' attribute') f picture)
-      → stored_with_picture (record { refusal = accepted; marks = marks }) shared' screen' attribute' picture'
+  -- a store with memories of the right lengths is accepted as its access is
+  pub goes_on :
+      length shared ≡ shared_bytes → length screen ≡ screen_bytes → length attribute ≡ attribute_bytes
+      → length picture ≡ picture_bytes → accepted ≡ refused_access m true address → refuses refusal ≡ false
+  unfolding lengths_with_picture lengths_8088
+  goes_on a b d e h = rw (a, b, d, e, ← h) refl
+
+  -- what the steps of the code left, where no row reads the byte
+  pub none_stored :
+      (seen : Option Seen) {before : Chain} {shared' screen' attribute' : List ℕ} → refuses refusal ≡ false
+      → before ≡ chain_of m screen attribute → seen ≡ seen_8088 address → None ≡ found before seen
+      → stored_8088 accepted shared' screen' attribute' ≡ store_seen seen shared screen attribute byte
+      → stored_with_picture (record { refusal = accepted; marks = 0 }) shared' screen' attribute' picture
       ≡ store_with_picture m shared screen attribute picture address byte
-  outcome goes_on wide sees is_f stored new =
+  none_stored seen on was sees none stored =
+      let after = store_seen (seen_8088 address) shared screen attribute byte in
+      let stays = none_mended (chain_of m after.screen after.attribute) picture (accepts on).0 in
+      let first : first_reader (chain_of m screen attribute) (seen_8088 address) ≡ rows =
+      none_reads (chain_of m screen attribute) (seen_8088 address) (rw (was, sees) at none) in
+      let left : stored_8088 accepted _ _ _ ≡ store_seen (seen_8088 address) shared screen attribute byte = rw sees at stored in
       rw (
-        new.0,
-        new.1,
-        is_f,
-        wide,
-        sees,
-        ap (λ (s : Stored8088). s.shared) stored,
-        ap (λ (s : Stored8088). s.screen) stored,
-        ap (λ (s : Stored8088). s.attribute) stored,
+        ap (λ (s : Stored8088). s.shared) left,
+        ap (λ (s : Stored8088). s.screen) left,
+        ap (λ (s : Stored8088). s.attribute) left,
+        mended_outcome on,
+        first,
+        stays,
+        unchanged picture,
       )
-      (sym (mended_outcome goes_on))
+      refl

@@ -8,13 +8,14 @@ use lib.ListN.{length, get_or, set, length-set}
 use lib.Seq.{set-get_or}
 use lib.Dec.{ltb}
 use borrow.Author.Tests.{ltb-true}
+use Rattle.std.specs.Prelude.{Option, Some, None}
 use Rattle.lent.specs.Answer.{byte_read}
 use Rattle.lent.specs.Refusals.{accepted, refuses}
 use Rattle.lent.specs.declared.ByteRead.{ByteRead}
 use Rattle.machine.specs.declared.Machine.{Machine}
 use Rattle.memories.specs.View8088.{seen_8088, refusal_8088, byte_seen, store_seen}
 use Rattle.memories.specs.declared.view8088.Seen.{Seen}
-use Rattle.memories.specs.declared.view8088.Seen.TheVariants.{Shared, Screen, Attribute, Nowhere}
+use Rattle.memories.specs.declared.view8088.Seen.TheVariants.{Shared, Screen, Attribute}
 use Rattle.chain.specs.Chain.{Chain, chain, Row, Whole, Torn, Dark, places, byte_at, capacity, terminator, link, row_from, next, rows, row_at}
 use Rattle.chain.specs.Reading.{screen_read}
 use Rattle.chain.specs.Alike.{read_ahead_of_high, low_four, ReadAlike}
@@ -34,7 +35,7 @@ use Rattle.mending.specs.Store.{lengths_with_picture, StoredWithPicture, stored_
 use Rattle.mending.specs.True.{TruePicture, KeepsTrue, MarksFresh, SameByteMarksNothing, UpperBitsMarkNothing, TopBitsMarkNothing}
 use Rattle.mending.proofs.Outcome.{unchanged, accepts, refused_outcome, mended_outcome}
 
-module _ (c : Chain) (seen : Seen) (byte : ℕ) (shared : List ℕ) (wide : c.columns ≤ record_pairs) where
+module _ (c : Chain) (seen : Option Seen) (byte : ℕ) (shared : List ℕ) (wide : c.columns ≤ record_pairs) where
   abbrev after : Chain
   after = chain_stored c seen byte shared
 
@@ -60,12 +61,12 @@ module _ (c : Chain) (seen : Seen) (byte : ℕ) (shared : List ℕ) (wide : c.co
 
 -- where the byte that is stored stands there already, the chain stays
 same_byte :
-    (c : Chain) (seen : Seen) (byte : ℕ) (shared : List ℕ) → byte_seen seen shared c.screen c.attribute ≡ byte
+    (c : Chain) (seen : Option Seen) (byte : ℕ) (shared : List ℕ) → byte_seen seen shared c.screen c.attribute ≡ byte
     → chain_stored c seen byte shared ≡ c
-same_byte c (Shared place) byte shared stands = refl
-same_byte c (Screen place) byte shared stands = rw (← stands, set-get_or c.screen place 0)
-same_byte c (Attribute place) byte shared stands = rw (← stands, set-get_or c.attribute place 0)
-same_byte c Nowhere byte shared stands = refl
+same_byte c (Some (Shared place)) byte shared stands = refl
+same_byte c (Some (Screen place)) byte shared stands = rw (← stands, set-get_or c.screen place 0)
+same_byte c (Some (Attribute place)) byte shared stands = rw (← stands, set-get_or c.attribute place 0)
+same_byte c None byte shared stands = refl
 
 -- attributes that are the same modulo 16 give the same picture
 module _ (c : Chain) (attribute : List ℕ) (alike : (p : ℕ) → byte_at attribute p % 16 ≡ byte_at c.attribute p % 16) where
@@ -175,14 +176,14 @@ module _
 
   -- the lengths stay
   lengths_after :
-      (seen : Seen) (n : ℕ)
+      (seen : Option Seen) (n : ℕ)
       → let left = store_seen seen shared screen attribute byte in
       lengths_with_picture (length left.shared) (length left.screen) (length left.attribute) n
       ≡ lengths_with_picture (length shared) (length screen) (length attribute) n
-  lengths_after (Shared place) n = rw (length-set shared place byte)
-  lengths_after (Screen place) n = rw (length-set screen place byte)
-  lengths_after (Attribute place) n = rw (length-set attribute place byte)
-  lengths_after Nowhere n = refl
+  lengths_after (Some (Shared place)) n = rw (length-set shared place byte)
+  lengths_after (Some (Screen place)) n = rw (length-set screen place byte)
+  lengths_after (Some (Attribute place)) n = rw (length-set attribute place byte)
+  lengths_after None n = refl
 
   abbrev TrueAfter : StoredWithPicture → Type 0
   TrueAfter left = TruePicture m left.shared left.screen left.attribute left.picture

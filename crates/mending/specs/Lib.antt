@@ -2,3 +2,4 @@ pub mod Mending
 pub mod Store
 pub mod Changes
 pub mod True
+pub mod Inner

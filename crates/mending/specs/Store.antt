@@ -1,7 +1,8 @@
 -- Document 01, "The picture": "A store of a byte by the 8088 with a picture lent".
-use Rattle.std.specs.Prelude.{ℕ, List, Bool, cond, ◌&&◌, length, eqb}
+use Rattle.std.specs.Prelude.{ℕ, List, Bool, Result, Ok, Err, if◌then◌else◌, ◌&&◌, length, ◌==◌}
 use Rattle.lent.specs.Lengths.{picture_bytes}
-use Rattle.lent.specs.Refusals.{accepted, refuses}
+use Rattle.lent.specs.Refusals.{accepted, refuses, number_of}
+use Rattle.lent.specs.declared.refusals.Refusal.{Refusal}
 use Rattle.machine.specs.declared.Machine.{Machine}
 use Rattle.memories.specs.View8088.{lengths_8088, seen_8088, refused_access, store_seen}
 use Rattle.picture.specs.Draw.{chain_of}
@@ -11,7 +12,12 @@ use Rattle.mending.specs.declared.Stored.{Stored}
 
 -- the four lengths are those of the list
 unfoldable pub lengths_with_picture : ℕ → ℕ → ℕ → ℕ → Bool
-lengths_with_picture shared screen attribute picture = lengths_8088 shared screen attribute && eqb picture picture_bytes
+lengths_with_picture shared screen attribute picture = lengths_8088 shared screen attribute && picture == picture_bytes
+
+-- the numbers of what a store answers: its marks, or a refusal, which has none
+abbrev pub store_answered : Result ℕ Refusal → Stored
+store_answered (Ok marks) = record { refusal = accepted; marks = marks }
+store_answered (Err refusal) = record { refusal = number_of refusal; marks = 0 }
 
 -- what the store leaves: its answer, the three memories and the picture
 pub record StoredWithPicture : Type 0 where
@@ -55,5 +61,5 @@ abbrev pub store_with_picture :
     Machine → (shared screen attribute picture : List ℕ) → (address byte : ℕ) → StoredWithPicture
 store_with_picture m shared screen attribute picture address byte =
     let refusal = refusal_with_picture m shared screen attribute picture address in
-    cond (refuses refusal) (refuse_with_picture refusal shared screen attribute picture)
-    (mend_with_picture m shared screen attribute picture address byte)
+    if refuses refusal then refuse_with_picture refusal shared screen attribute picture
+    else mend_with_picture m shared screen attribute picture address byte

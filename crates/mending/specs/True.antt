@@ -1,5 +1,5 @@
 -- What a store does to a true picture, one that a fresh drawing would give.
-use Rattle.std.specs.Prelude.{ℕ, ◌%◌, ◌<◌, ◌≡◌, List, true, false, length, get_or}
+use Rattle.std.specs.Prelude.{ℕ, ◌%◌, ◌<◌, ◌≡◌, List, true, false, length, get_or, Some, Some}
 use Rattle.lent.specs.Answer.{byte_read}
 use Rattle.machine.specs.declared.Machine.{Machine}
 use Rattle.memories.specs.View8088.{seen_8088, read_8088}
@@ -45,7 +45,7 @@ SameByteMarksNothing =
 abbrev pub UpperBitsMarkNothing : Type 0
 UpperBitsMarkNothing =
     (m : Machine) (shared screen attribute picture : List ℕ) (address byte place : ℕ)
-    → TruePicture m shared screen attribute picture → seen_8088 address ≡ Attribute place
+    → TruePicture m shared screen attribute picture → seen_8088 address ≡ Some (Attribute place)
     → byte % 16 ≡ get_or attribute place 0 % 16
     → (store_with_picture m shared screen attribute picture address byte).answer.marks ≡ 0
 
@@ -54,7 +54,7 @@ UpperBitsMarkNothing =
 abbrev pub TopBitsMarkNothing : Type 0
 TopBitsMarkNothing =
     (m : Machine) (shared screen attribute picture : List ℕ) (address byte place : ℕ)
-    → TruePicture m shared screen attribute picture → seen_8088 address ≡ Screen place
+    → TruePicture m shared screen attribute picture → seen_8088 address ≡ Some (Screen place)
     → byte % 16 ≡ get_or screen place 0 % 16
     → let c = chain_of m screen attribute in
     ((row : ℕ) → row < rows → among place (read_ahead_of_high c (row_at c row)) ≡ false)

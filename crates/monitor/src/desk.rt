@@ -1,33 +1,8 @@
-// What the monitor keeps beside the memories: the machine, the viewers, and how many bytes of each memory it lends.
-ghost use Rattle.std.specs.Prelude.{◌≤◌, length};
+// What the monitor keeps: the machine, the viewers, and the memories with how many bytes of each it lends.
+ghost use Rattle.std.specs.Prelude.{◌≤◌};
 
 use machine::Machine;
 use viewers::Viewers;
-
-// The memories by number, in the order of document 01's list and then 02's, each one after the one before it.
-pub const SHARED: usize = 0;
-
-pub const PRIVATE: usize = SHARED + 1;
-
-pub const SCREEN: usize = PRIVATE + 1;
-
-pub const ATTRIBUTE: usize = SCREEN + 1;
-
-pub const GLYPHS: usize = ATTRIBUTE + 1;
-
-pub const NVM: usize = GLYPHS + 1;
-
-pub const SHADOW: usize = NVM + 1;
-
-pub const PICTURE: usize = SHADOW + 1;
-
-pub const LINE: usize = PICTURE + 1;
-
-pub const LINES: usize = LINE + 1;
-
-pub const INDEX: usize = LINES + 1;
-
-pub const MEMORIES: usize = INDEX + 1;
 
 // Each memory has one byte more than the list says, so that it can be lent too long.
 pub const SHARED_BYTES: usize = lent::SHARED_BYTES + 1;
@@ -52,89 +27,93 @@ pub const LINES_BYTES: usize = lent::LIST_BYTES + 1;
 
 pub const INDEX_BYTES: usize = lent::INDEX_BYTES + 1;
 
-#[derive(Clone, Copy)]
+// A memory, and how many bytes of it are lent.
+#[derive(Drop)]
+pub struct Memory<const N: usize> {
+    pub bytes: [u8; N],
+    lent: usize,
+    ghost within: { lent ≤ N },
+}
+
+impl<const N: usize> Memory<N> {
+    fn empty() -> Self {
+        Memory {
+            bytes: [0; N],
+            lent: 0,
+        }
+    }
+
+    // Lends so many bytes from now on, or as many as the memory has.
+    pub fn lend(&mut self, bytes: usize) {
+        self.lent = bytes.min(N);
+    }
+
+    pub fn lent(&self) -> &[u8] {
+        &self.bytes[..self.lent]
+    }
+
+    pub fn lent_mut(&mut self) -> &mut [u8] {
+        let lent = self.lent;
+        let bytes = &mut self.bytes;
+        let bytes = &mut bytes[..];
+        &mut bytes[..lent]
+    }
+}
+
+// The memories in the order of document 01's list and then 02's.
+#[derive(Drop)]
 pub struct Desk {
     pub machine: Machine,
     pub viewers: Viewers,
-    // How many bytes of each memory are lent.
-    pub lent: [usize; MEMORIES],
+    pub shared: Memory<SHARED_BYTES>,
+    pub private: Memory<PRIVATE_BYTES>,
+    pub screen: Memory<SCREEN_BYTES>,
+    pub attribute: Memory<ATTRIBUTE_BYTES>,
+    pub glyphs: Memory<GLYPHS_BYTES>,
+    pub nvm: Memory<NVM_BYTES>,
+    pub shadow: Memory<SHADOW_BYTES>,
+    pub picture: Memory<PICTURE_BYTES>,
+    pub line: Memory<LINE_BYTES>,
+    pub lines: Memory<LINES_BYTES>,
+    pub index: Memory<INDEX_BYTES>,
 }
 
-// The machine at power-up, the viewers at their start, and every memory lent whole.
-pub fn power_up() -> Desk {
-    Desk {
-        machine: Machine::power_up(),
-        viewers: Viewers::start(),
-        lent: [
-            lent::SHARED_BYTES,
-            lent::PRIVATE_BYTES,
-            lent::SCREEN_BYTES,
-            lent::ATTRIBUTE_BYTES,
-            lent::GLYPH_BYTES,
-            lent::NVM_BYTES,
-            lent::SHADOW_BYTES,
-            lent::PICTURE_BYTES,
-            lent::LINE_BYTES,
-            lent::LIST_BYTES,
-            lent::INDEX_BYTES,
-        ],
+impl Desk {
+    // As at power-up, with every byte 00.
+    pub fn start() -> Self {
+        let mut desk = Desk {
+            machine: Machine::power_up(),
+            viewers: Viewers::start(),
+            shared: Memory::empty(),
+            private: Memory::empty(),
+            screen: Memory::empty(),
+            attribute: Memory::empty(),
+            glyphs: Memory::empty(),
+            nvm: Memory::empty(),
+            shadow: Memory::empty(),
+            picture: Memory::empty(),
+            line: Memory::empty(),
+            lines: Memory::empty(),
+            index: Memory::empty(),
+        };
+        desk.power_up();
+        desk
     }
-}
 
-// The same desk with another machine.
-pub fn with_machine(desk: Desk, machine: Machine) -> Desk {
-    let viewers = desk.viewers;
-    let lent = desk.lent;
-    Desk {
-        machine,
-        viewers,
-        lent,
+    // The machine at power-up, the viewers at their start, and every memory lent whole. The bytes stay.
+    pub fn power_up(&mut self) {
+        self.machine = Machine::power_up();
+        self.viewers = Viewers::start();
+        self.shared.lend(lent::SHARED_BYTES);
+        self.private.lend(lent::PRIVATE_BYTES);
+        self.screen.lend(lent::SCREEN_BYTES);
+        self.attribute.lend(lent::ATTRIBUTE_BYTES);
+        self.glyphs.lend(lent::GLYPH_BYTES);
+        self.nvm.lend(lent::NVM_BYTES);
+        self.shadow.lend(lent::SHADOW_BYTES);
+        self.picture.lend(lent::PICTURE_BYTES);
+        self.line.lend(lent::LINE_BYTES);
+        self.lines.lend(lent::LIST_BYTES);
+        self.index.lend(lent::INDEX_BYTES);
     }
-}
-
-// The same desk with what a call made of the viewers.
-pub fn with_viewers(desk: Desk, viewers: Viewers) -> Desk {
-    let machine = desk.machine;
-    let lent = desk.lent;
-    Desk {
-        machine,
-        viewers,
-        lent,
-    }
-}
-
-// Lends so many bytes of a memory from now on.
-pub fn with_lent(desk: Desk, name: usize, bytes: usize) -> Desk {
-    let machine = desk.machine;
-    let viewers = desk.viewers;
-    let mut lent = desk.lent;
-    if name < MEMORIES {
-        lent[name] = bytes;
-    }
-    Desk {
-        machine,
-        viewers,
-        lent,
-    }
-}
-
-// How many bytes of a memory are lent: no more than it has.
-pub fn cut(desk: Desk, name: usize, memory: &[u8]) -> usize
-    ensures { result ≤ length memory.now }
-{
-    let lent = desk.lent;
-    if name < MEMORIES {
-        return up_to(lent[name], memory);
-    }
-    0
-}
-
-// So many bytes, or as many as a memory has.
-pub fn up_to(bytes: usize, memory: &[u8]) -> usize
-    ensures { result ≤ length memory.now }
-{
-    if bytes < memory.len() {
-        return bytes;
-    }
-    memory.len()
 }

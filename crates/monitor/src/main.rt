@@ -16,96 +16,105 @@ mod watching;
 mod why;
 
 use desk::Desk;
-use input::Source;
+use forms::Form;
+use hand::ByHand;
 use std::io;
+use std::io::Read;
 
-// Takes lines to the end of the input. A proved loop has to end, so it counts to a number that no run reaches.
 fn main(rt: HostRuntime) -> io::Result<()> {
-    let mut shared = [0; desk::SHARED_BYTES];
-    let mut private = [0; desk::PRIVATE_BYTES];
-    let mut screen = [0; desk::SCREEN_BYTES];
-    let mut attribute = [0; desk::ATTRIBUTE_BYTES];
-    let mut glyphs = [0; desk::GLYPHS_BYTES];
-    let mut nvm = [0; desk::NVM_BYTES];
-    let mut shadow = [0; desk::SHADOW_BYTES];
-    let mut picture = [0; desk::PICTURE_BYTES];
-    let mut line = [0; desk::LINE_BYTES];
-    let mut lines = [0; desk::LINES_BYTES];
-    let mut index = [0; desk::INDEX_BYTES];
-    let mut desk = desk::power_up();
-    let mut source = input::first(&rt)?;
-    for _ in 0..u64::MAX {
-        let mut text = [0u8; input::TEXT_BYTES];
-        source = input::next(&rt, source, &mut text)?;
-        if source.over {
-            return Ok(());
+    let mut desk = Desk::start();
+    if !console::has_argument(&rt, 1) {
+        return take(&rt, &mut desk, &mut rt.stdin(), false);
+    }
+    for argument in 1..usize::MAX {
+        if !console::has_argument(&rt, argument) {
+            break;
         }
-        desk = turn(
-            &rt,
-            desk,
-            &source,
-            &text,
-            &mut shared,
-            &mut private,
-            &mut screen,
-            &mut attribute,
-            &mut glyphs,
-            &mut nvm,
-            &mut shadow,
-            &mut picture,
-            &mut line,
-            &mut lines,
-            &mut index,
-        )?;
+        if let Some(mut file) = input::opened(&rt, argument)? {
+            take(&rt, &mut desk, &mut file, true)?;
+        }
     }
     Ok(())
 }
 
-// Obeys the line that was read last.
-fn turn(
-    rt: &HostRuntime,
-    desk: Desk,
-    source: &Source,
-    text: &[u8],
-    shared: &mut [u8; desk::SHARED_BYTES],
-    private: &mut [u8; desk::PRIVATE_BYTES],
-    screen: &mut [u8; desk::SCREEN_BYTES],
-    attribute: &mut [u8; desk::ATTRIBUTE_BYTES],
-    glyphs: &mut [u8; desk::GLYPHS_BYTES],
-    nvm: &mut [u8; desk::NVM_BYTES],
-    shadow: &mut [u8; desk::SHADOW_BYTES],
-    picture: &mut [u8; desk::PICTURE_BYTES],
-    line: &mut [u8; desk::LINE_BYTES],
-    lines: &mut [u8; desk::LINES_BYTES],
-    index: &mut [u8; desk::INDEX_BYTES],
-) -> io::Result<Desk> {
-    let text = input::line(rt, source, text)?;
-    let command = forms::parse(text);
-    let form = command.form;
-    match form {
-        forms::STORE..=forms::READ | forms::INDEX_STORE => {
-            return calls::by_8088(rt, desk, command, shared, screen, attribute, picture, index);
+// Takes lines to the end of a file. One of a file that an argument names is shown first, so that what is written reads
+// alone. A proved loop has to end, so it counts to a number that no run reaches.
+fn take<R: Read>(rt: &HostRuntime, desk: &mut Desk, from: &mut R, shown: bool) -> io::Result<()> {
+    for _ in 0..u64::MAX {
+        let mut text = [0u8; input::TEXT_BYTES];
+        let Some(line) = input::next_line(from, &mut text) else {
+            break;
+        };
+        if shown {
+            input::echo(rt, line)?;
         }
-        forms::Z80_STORE..=forms::Z80_READ => calls::by_z80(rt, desk, command, private, shared)?,
-        forms::PORT..=forms::WATCH => return calls::to_machine(rt, desk, command, shadow, nvm),
-        forms::SHADOW_WRITE..=forms::SHADOW_READ => calls::to_shadow(rt, desk, command, shadow)?,
-        forms::DRAW => return watching::draw(rt, desk, screen, attribute, picture),
-        forms::INDEX => calls::index(rt, desk, screen, attribute, index)?,
-        forms::ASK => return watching::ask(rt, desk, command.first),
-        forms::MARKED..=forms::SCROLL => scans::show(
-            rt, desk, command, screen, attribute, picture, glyphs, line, lines,
-        )?,
-        forms::SUMS => hand::sums(
-            rt, shared, private, screen, attribute, glyphs, nvm, shadow, picture, line, lines,
-            index,
-        )?,
-        forms::LEND..=forms::STREW => {
-            return hand::named(
-                rt, desk, command, shared, private, screen, attribute, glyphs, nvm, shadow,
-                picture, line, lines, index,
-            );
-        }
-        _ => return hand::obey(rt, desk, command, text, screen, attribute, picture),
+        obey(rt, desk, line)?;
     }
-    Ok(desk)
+    Ok(())
+}
+
+// A number of a line as the byte, the word or the 32 bits that a call takes. Its form leaves it no more digits than
+// that, but D where a byte is meant.
+fn byte(n: usize) -> u8 {
+    (n % 256) as u8
+}
+
+fn word(n: usize) -> u16 {
+    (n % 65536) as u16
+}
+
+fn long(n: usize) -> u32 {
+    (n % 4294967296) as u32
+}
+
+fn obey(rt: &HostRuntime, desk: &mut Desk, line: &[u8]) -> io::Result<()> {
+    let Some((form, command)) = forms::parse(line) else {
+        return forms::no_form(rt, line);
+    };
+    let [a, b, c, d] = command.numbers;
+    match form {
+        Form::Store => watching::store(rt, desk, long(a), byte(b)),
+        Form::Blind => calls::store_blind(rt, desk, long(a), byte(b)),
+        Form::Read => calls::read(rt, desk, long(a)),
+        Form::Z80Store => calls::store_z80(rt, desk, word(a), byte(b)),
+        Form::Z80Read => calls::read_z80(rt, desk, word(a)),
+        Form::Port => calls::port(rt, desk, word(a), byte(b)),
+        Form::Tick => calls::tick(rt, desk),
+        Form::Watch => calls::watch(rt, desk, a),
+        Form::ShadowWrite => calls::write_shadow(rt, desk, a, byte(b)),
+        Form::ShadowRead => calls::read_shadow(rt, desk, a),
+        Form::Draw => watching::draw(rt, desk),
+        Form::Index => calls::index(rt, desk),
+        Form::IndexStore => watching::store_with_index(rt, desk, long(a), byte(b)),
+        Form::Ask => watching::ask(rt, desk, a),
+        Form::Marked => scans::is_marked(rt, long(a), b),
+        Form::Why => why::explain(rt, desk, a, b),
+        Form::Line => scans::draw_line(rt, desk, a, b),
+        Form::Lines => lines::list(rt, desk),
+        Form::Glyph => scans::part(rt, desk, byte(a)),
+        Form::Dots => scans::count(rt, desk),
+        Form::Scroll => scans::scroll(rt, desk),
+        Form::Power => hand::power(rt, desk),
+        Form::Machine => say::machine(rt, "machine", desk.machine),
+        Form::Latch => hand::latch(rt, desk, byte(a)),
+        Form::Count => hand::count(rt, desk, byte(a), b != 0),
+        Form::Viewers => watching::say_waiting(rt, "viewers:", desk.viewers),
+        Form::Wait => watching::wait(rt, desk, a, long(b)),
+        Form::Rows => rows::list(rt, &desk.picture.bytes),
+        Form::Text => rows::show(rt, &desk.picture.bytes, desk.machine.columns()),
+        Form::List => rows::list_afresh(rt, desk, a),
+        Form::Sums => hand::sums(rt, desk),
+        Form::Help => forms::help(rt),
+        Form::Lend => hand::to_memory(rt, desk, a, ByHand::Lend(b)),
+        Form::Fill => hand::to_memory(rt, desk, a, ByHand::Fill(byte(b))),
+        Form::Put => {
+            let (place, byte) = (b, byte(c));
+            hand::to_memory(rt, desk, a, ByHand::Put { place, byte })
+        }
+        Form::Bytes => hand::to_memory(rt, desk, a, ByHand::Show { from: b, count: c }),
+        Form::Strew => {
+            let (seed, every, under) = (long(b), c, d);
+            hand::to_memory(rt, desk, a, ByHand::Strew { seed, every, under })
+        }
+    }
 }

@@ -1,8 +1,9 @@
 -- Laws about the drawing call: what the lengths tell, and that a line fits a record.
 use Prim.Native.Nat.{ℕ, ◌≤◌}
 use mathlib.Core.Path.{◌≡◌}
-use mathlib.Core.Bool.{Bool, true, false, cond}
+use mathlib.Core.Bool.{true}
 use native.Mathlib.Omega.{arith}
+use Rattle.std.proofs.lemmas.Bool.Decides.{nat_tests}
 use Rattle.lent.specs.Lengths.{screen_bytes, attribute_bytes, picture_bytes}
 use Rattle.lent.proofs.Tests.{three_equal}
 use Rattle.machine.specs.Settings.{columns}
@@ -20,8 +21,4 @@ lent_picture {screen} {attribute} {picture} =
 
 -- a line of either setting fits the pairs of a record
 pub columns_fit : (m : Machine) → columns m ≤ record_pairs
-columns_fit m = go m.columns132
-  where
-    go : (b : Bool) → cond b 132 80 ≤ record_pairs
-    go true = omega arith
-    go false = omega arith
+columns_fit m = grind (arith, nat_tests)

@@ -1,11 +1,12 @@
 -- Laws about records one after the other: how long they are, which is which, and that a picture is its records.
 use Prim.Native.Nat.{ℕ, zero, suc, ◌+◌, ◌-◌, ◌*◌, ◌≤◌, ◌<◌}
-use mathlib.Core.Path.{◌≡◌, refl, ◌∙◌}
+use mathlib.Core.Path.{◌≡◌, refl}
 use mathlib.Core.List.{List, ◌++◌}
 use mathlib.Core.Bool.{Bool, true, false}
 use native.Mathlib.Nat.{zero-mul, suc-mul}
 use native.Mathlib.Omega.{arith}
-use lib.ListN.{length, take, drop, length-append, length-drop}
+use Rattle.std.proofs.lemmas.Grind.{common_steps}
+use lib.ListN.{length, take, drop, length-drop}
 use lib.Seq.{take_all, take-add, take-append-le, drop-append-le, drop_at}
 use lib.Dec.{eqb}
 use borrow.Author.Tests.{eqb-true, eqb-false}
@@ -14,20 +15,21 @@ use Rattle.lent.specs.Lengths.{picture_bytes}
 use Rattle.chain.specs.Chain.{rows}
 use Rattle.records.specs.Record.{record_bytes}
 use Rattle.picture.specs.Picture.{in_order, record_in}
-use Rattle.lent.proofs.Parts.{part_lent, part_back, part_put, part_left}
+use Rattle.lent.proofs.Parts.{part_lent, part_left}
 
 -- the same records one after the other
 pub same_records :
     (f g : ℕ → List ℕ) (n : ℕ) → ((row : ℕ) → row < n → f row ≡ g row) → in_order f n ≡ in_order g n
 unfolding in_order
 same_records f g zero same = refl
-same_records f g (suc n) same = rw (same_records f g n (λ row h. same row (omega arith)), same n (omega arith))
+same_records f g (suc n) same = grind (arith, same_records f g n (λ row h. same row (omega arith)), same n)
 
 -- the first records of a picture are its first bytes
 pub own_records : (picture : List ℕ) (n : ℕ) → in_order (record_in picture) n ≡ take (n * record_bytes) picture
 unfolding in_order record_in
 own_records picture zero = refl
-own_records picture (suc n) = rw (own_records picture n, suc-mul n record_bytes, take-add (n * record_bytes) record_bytes picture)
+own_records picture (suc n) =
+    grind (arith, common_steps, own_records picture n, suc-mul n record_bytes, take-add (n * record_bytes) record_bytes picture)
 
 -- so many of one size
 pub pieces_length :
@@ -35,7 +37,7 @@ pub pieces_length :
 unfolding in_order
 pieces_length f size zero sized = rw (zero-mul size) refl
 pieces_length f size (suc n) sized =
-    rw (length-append, pieces_length f size n (λ k h. sized k (omega arith)), sized n (omega arith), suc-mul n size) refl
+    grind (arith, common_steps, pieces_length f size n (λ k h. sized k (omega arith)), sized n, suc-mul n size)
 
 module _ (f : ℕ → List ℕ) where
   abbrev pub Sized : ℕ → Type 0
@@ -87,20 +89,19 @@ module _
     (long : length picture ≡ picture_bytes)
     (more : row < rows)
     (same : length new ≡ record_bytes) where
-  after : (row + 1) * record_bytes ≡ row * record_bytes + record_bytes
-  after = omega arith
-
   pub record_back :
       length (put_mid (row * record_bytes) (row * record_bytes + record_bytes - row * record_bytes) picture new) ≡ picture_bytes
-  record_back = part_back picture (row * record_bytes) record_bytes (room picture row long more) new same ∙ long
+  record_back = grind (arith, common_steps)
 
   -- it comes after the records before it, and ahead of those after it
   pub record_put :
       take ((row + 1) * record_bytes) (put_mid (row * record_bytes) (row * record_bytes + record_bytes - row * record_bytes) picture new)
       ≡ take (row * record_bytes) picture ++ new
-  record_put = rw after (part_put picture (row * record_bytes) record_bytes (room picture row long more) new same)
+  record_put = grind (arith, common_steps)
 
   pub record_left :
       drop ((row + 1) * record_bytes) (put_mid (row * record_bytes) (row * record_bytes + record_bytes - row * record_bytes) picture new)
       ≡ drop ((row + 1) * record_bytes) picture
-  record_left = rw after (part_left picture (row * record_bytes) record_bytes (room picture row long more) new same)
+  record_left =
+      let after : (row + 1) * record_bytes ≡ row * record_bytes + record_bytes = omega arith in
+      rw after (part_left picture (row * record_bytes) record_bytes (room picture row long more) new same)

@@ -3,13 +3,14 @@ use Prim.Native.Nat.{ℕ, zero, suc, ◌+◌, ◌*◌, ◌≤◌}
 use mathlib.Core.Path.{◌≡◌, refl}
 use mathlib.Core.List.{List}
 use native.Mathlib.Omega.{arith}
+use Rattle.std.proofs.lemmas.Grind.{common_steps}
 use lib.ListN.{length, length-append}
-use Rattle.chain.specs.Chain.{Chain, Row, Whole, Torn, Dark, rows, row_at}
+use Rattle.chain.specs.Chain.{Chain, Row, rows, row_at}
 use Rattle.chain.specs.Reading.{reads}
 use Rattle.chain.proofs.Laws.{capacity_within}
 use Rattle.chain.proofs.Reading.{reads_at}
 use Rattle.records.specs.Record.{cell_pairs, cells_shown, record_of}
-use Rattle.records.proofs.Cells.{fill_length}
+use Rattle.records.proofs.Filled.{fill_length}
 use Rattle.picture.specs.Picture.{record_at}
 use Rattle.picture.specs.Sizes.{RecordsSized, PictureSized}
 use Rattle.picture.proofs.Records.{records_length}
@@ -17,14 +18,11 @@ use Rattle.picture.proofs.Records.{records_length}
 pub cells_length : (screen attribute : List ℕ) (start cells : ℕ) → length (cell_pairs screen attribute start cells) ≡ 2 * cells
 unfolding cell_pairs
 cells_length screen attribute start zero = refl
-cells_length screen attribute start (suc cell) =
-    rw (length-append, cells_length screen attribute start cell) (omega arith)
+cells_length screen attribute start (suc cell) = grind (arith, common_steps, cells_length screen attribute start cell)
 
 pub shown_fit : (c : Chain) (row : Row) → reads c row ≤ c.columns + 3 → cells_shown c row ≤ c.columns
 unfolding reads
-shown_fit c (Whole head cells) h = omega arith
-shown_fit c (Torn head) h = capacity_within c.columns head.kind
-shown_fit c Dark h = omega arith
+shown_fit c row h = grind (arith, capacity_within)
 
 pub records_sized : RecordsSized
 unfolding record_of

@@ -11,8 +11,7 @@ use Rattle.lent.specs.Lengths.{picture_bytes}
 use Rattle.chain.specs.Chain.{Chain, first, rows, row_at}
 use Rattle.chain.specs.Reading.{reads_to, walk_reads, reads_at_132}
 use Rattle.chain.specs.Inner.{row_ahead, ahead_of}
-use Rattle.chain.specs.declared.Ahead.{Ahead}
-use Rattle.chain.specs.declared.Ahead.TheVariants.{Row}
+use Rattle.chain.specs.declared.Head.{Head}
 use Rattle.chain.proofs.Laws.{ahead_leads}
 use Rattle.chain.proofs.Reading.{reads_fit}
 use Rattle.records.specs.Record.{record_bytes, record_pairs, record_of}
@@ -21,27 +20,26 @@ use Rattle.records.specs.declared.RowRead.{RowRead}
 use Rattle.picture.specs.Picture.{in_order, record_at, picture_of}
 use Rattle.picture.specs.Wild.{first_wild}
 use Rattle.picture.specs.Inner.{named}
-use Rattle.picture.specs.declared.FirstWild.{FirstWild}
-use Rattle.picture.specs.declared.FirstWild.TheVariants.{NoRow}
+use Rattle.std.specs.Prelude.{Option, Some, None}
 use Rattle.picture.proofs.Records.{record_back, record_put}
 use Rattle.picture.proofs.Wild.{Naming, none_passed, one_passed, all_passed}
 
 pub record Walking
-    (c : Chain) (picture : List ℕ) (ahead : Ahead) (count : ℕ) (wild_so_far : FirstWild) (row : ℕ) : Type 0 where
+    (c : Chain) (picture : List ℕ) (ahead : Option Head) (count : ℕ) (wild_so_far : Option ℕ) (row : ℕ) : Type 0 where
   pub within : row ≤ rows
   pub same : length picture ≡ picture_bytes
-  pub comes : ahead ≡ ahead_of c row
+  pub follows : ahead ≡ ahead_of c row
   pub counted : count ≡ reads_to c row
   pub naming : Naming c wild_so_far row
   pub drawn : take (row * record_bytes) picture ≡ in_order (record_at c) row
 
-pub walk_begins : (c : Chain) (picture : List ℕ) → length picture ≡ picture_bytes → Walking c picture (Row first) 0 NoRow 0
+pub walk_begins : (c : Chain) (picture : List ℕ) → length picture ≡ picture_bytes → Walking c picture (Some first) 0 None 0
 unfolding ahead_of reads_to in_order
 walk_begins c picture same =
     record {
       within = omega arith;
       same = same;
-      comes = refl;
+      follows = refl;
       counted = refl;
       naming = none_passed c;
       drawn = refl;
@@ -50,14 +48,14 @@ walk_begins c picture same =
 module _
     {c : Chain}
     {picture : List ℕ}
-    {ahead : Ahead}
+    {ahead : Option Head}
     {count : ℕ}
-    {wild_so_far : FirstWild}
+    {wild_so_far : Option ℕ}
     {row : ℕ}
     (w : Walking c picture ahead count wild_so_far row)
     (more : row < rows) where
   is_row : row_ahead c ahead ≡ row_at c row
-  is_row = rw w.comes (ahead_leads c row)
+  is_row = rw w.follows (ahead_leads c row)
 
   next_counted : {one : RowRead} → one ≡ row_read c ahead → count + one.reads ≡ reads_to c (row + 1)
   unfolding reads_to
@@ -80,19 +78,19 @@ module _
       record {
         within = omega arith;
         same = record_back picture new row w.same more same;
-        comes = rw (add-one row, e, is_row);
+        follows = rw (add-one row, e, is_row);
         counted = next_counted {one = one} e;
         naming = rw (e, is_row) (one_passed c wild_so_far row w.naming more);
         drawn = rw (record_put picture new row w.same more same, w.drawn, r, is_row, add-one row);
       }
 
 pub count_fits :
-    {c : Chain} {picture : List ℕ} {ahead : Ahead} {count : ℕ} {wild_so_far : FirstWild} {row : ℕ}
+    {c : Chain} {picture : List ℕ} {ahead : Option Head} {count : ℕ} {wild_so_far : Option ℕ} {row : ℕ}
     → Walking c picture ahead count wild_so_far row → c.columns ≤ record_pairs → count ≤ reads_at_132
 count_fits {c} {row = row} w wide = rw w.counted (reads_fit c wide row w.within)
 
 pub walk_ends :
-    {c : Chain} {picture : List ℕ} {ahead : Ahead} {count : ℕ} {wild_so_far : FirstWild} {row : ℕ}
+    {c : Chain} {picture : List ℕ} {ahead : Option Head} {count : ℕ} {wild_so_far : Option ℕ} {row : ℕ}
     → Walking c picture ahead count wild_so_far row → rows ≤ row
     → (count ≡ walk_reads c) × ((wild_so_far ≡ first_wild c) × (picture ≡ picture_of c))
 walk_ends {c} {picture} {wild_so_far = wild_so_far} {row} w all =

@@ -1,5 +1,5 @@
 -- Document 01, "The chain of lines": how many bytes of screen memory the drawing call can report.
-use Rattle.std.specs.Prelude.{ℕ, ◌≤◌, List, cond}
+use Rattle.std.specs.Prelude.{ℕ, ◌≤◌, List, if◌then◌else◌}
 use Rattle.machine.specs.declared.Machine.{Machine}
 use Rattle.chain.specs.Reading.{reads_at_132, reads_at_80}
 use Rattle.picture.specs.Draw.{draw}
@@ -8,4 +8,4 @@ use Rattle.picture.specs.Draw.{draw}
 abbrev pub CountAtMost : Type 0
 CountAtMost =
     (m : Machine) (screen attribute picture : List ℕ)
-    → (draw m screen attribute picture).answer.reads ≤ cond m.columns132 reads_at_132 reads_at_80
+    → (draw m screen attribute picture).answer.reads ≤ (if m.columns132 then reads_at_132 else reads_at_80)

@@ -1,9 +1,7 @@
 -- No sentence of a document: what our own functions promise each other. Here the one that names a wild row.
-use Rattle.std.specs.Prelude.{ℕ, Bool, cond}
-use Rattle.picture.specs.declared.FirstWild.{FirstWild}
-use Rattle.picture.specs.declared.FirstWild.TheVariants.{Named, NoRow}
+use Rattle.std.specs.Prelude.{ℕ, Bool, Option, Some, None, if◌then◌else◌}
 
 -- the first wild row with one row more: a row that was named stays, else this one is named if it is wild
-abbrev pub named : FirstWild → (row : ℕ) → (wild : Bool) → FirstWild
-named (Named before) row wild = Named before
-named NoRow row wild = cond wild (Named row) NoRow
+abbrev pub named : Option ℕ → (row : ℕ) → (wild : Bool) → Option ℕ
+named (Some before) row wild = Some before
+named None row wild = if wild then Some row else None

@@ -1,5 +1,5 @@
 -- Document 02, ticket 1: what the answer of a drawing says of the wild rows.
-use Rattle.std.specs.Prelude.{ℕ, ◌+◌, ◌<◌, ◌≡◌, List, true, false, ◌||◌, eqb}
+use Rattle.std.specs.Prelude.{ℕ, ◌+◌, ◌<◌, ◌≡◌, List, true, false, ◌||◌, ◌==◌}
 use Rattle.lent.specs.Refusals.{accepted}
 use Rattle.machine.specs.Settings.{bit}
 use Rattle.machine.specs.declared.Machine.{Machine}
@@ -38,4 +38,4 @@ WildByItsBits =
     (screen : List ℕ) (place : ℕ) → let high = byte_at screen (place + 2) in
     high < 256
     → wild_link screen place
-    ≡ (eqb (bit 7 high) 1 || (eqb (bit 6 high) 1 || (eqb (bit 5 high) 1 || eqb (bit 4 high) 1)))
+    ≡ (bit 7 high == 1 || (bit 6 high == 1 || (bit 5 high == 1 || bit 4 high == 1)))

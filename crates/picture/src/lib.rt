@@ -3,20 +3,32 @@
 #![tactic(auto)]
 
 ghost use Rattle.std.specs.Prelude.{◌≤◌, ◌≡◌, length};
-ghost use Rattle.lent.specs.Lengths.{screen_bytes, attribute_bytes, picture_bytes};
-ghost use Rattle.chain.specs.Chain.{chain};
-ghost use Rattle.records.specs.Record.{record_pairs};
+ghost use Rattle.chain.specs.Page.{chain_on};
+ghost use Rattle.chain.specs.Reading.{walk_reads};
+ghost use Rattle.records.specs.Record.{record_bytes, record_pairs};
+ghost use Rattle.records.specs.Inner.{record_read};
 ghost use Rattle.picture.specs.Picture.{picture_of};
-ghost use Rattle.picture.specs.Draw.{lengths_picture, refused_answer, accepted_answer, answer_of, drawn, draw};
+ghost use Rattle.picture.specs.Wild.{first_wild};
+ghost use Rattle.picture.specs.Draw.{chain_of, drawing_answered, drawn, draw};
 ghost use Rattle.picture.specs.Inner.{named};
 
-use chain::{Ahead, Head};
+use chain::{Head, Memory, Page};
+use lent::Refusal;
 use machine::Machine;
+use records::RowRead;
 
-// The answer of the drawing call: the bytes of screen memory that the walk read, whether the link of any row is wild,
-// and the first such row, or 0.
+pub type Picture = [u8; lent::PICTURE_BYTES];
+
+// What a drawing answers: the bytes of screen memory that the walk read, and the first row whose link is wild.
+#[derive(Clone, Copy, Debug, PartialEq, Eq)]
+pub struct Drawing {
+    pub reads: u16,
+    pub wild: Option<u8>,
+}
+
+// The same as numbers: whether the link of any row is wild, and the first such row, or 0.
 #[repr(C)]
-#[derive(Clone, Copy)]
+#[derive(Clone, Copy, Debug, PartialEq, Eq)]
 pub struct Drawn {
     pub refusal: u8,
     pub reads: u16,
@@ -24,40 +36,20 @@ pub struct Drawn {
     pub wild_row: u8,
 }
 
-// The first row whose link is wild.
-#[derive(Clone, Copy)]
-pub enum FirstWild {
-    Named(u8),
-    NoRow,
-}
+impl From<Result<Drawing, Refusal>> for Drawn {
+    ghost from_gives = { λ outcome told. told ≡ drawing_answered outcome };
 
-impl Drawn {
-    // The answer of a drawing that is refused: no byte read, no row named.
-    pub fn refused(refusal: u8) -> Drawn
-        ensures { result ≡ refused_answer refusal }
-    {
-        Drawn {
-            refusal,
-            reads: 0,
-            wild: false,
-            wild_row: 0,
-        }
-    }
-
-    // The answer of a drawing that is not.
-    fn accepted(reads: u16, wild: FirstWild) -> Drawn
-        ensures { result ≡ accepted_answer reads wild }
-    {
-        match wild {
-            FirstWild::Named(row) => Drawn {
+    fn from(outcome: Result<Drawing, Refusal>) -> Drawn {
+        match outcome {
+            Ok(drawing) => Drawn {
                 refusal: lent::ACCEPTED,
-                reads,
-                wild: true,
-                wild_row: row,
+                reads: drawing.reads,
+                wild: drawing.wild.is_some(),
+                wild_row: drawing.wild.unwrap_or(0),
             },
-            FirstWild::NoRow => Drawn {
-                refusal: lent::ACCEPTED,
-                reads,
+            Err(refusal) => Drawn {
+                refusal: refusal.number(),
+                reads: 0,
                 wild: false,
                 wild_row: 0,
             },
@@ -65,65 +57,74 @@ impl Drawn {
     }
 }
 
+// The rows that a machine's column setting and two memories make.
+pub fn page_of<'a>(machine: Machine, screen: &'a Memory, attribute: &'a Memory) -> Page<'a>
+    ensures { chain_on result ≡ chain_of machine screen.now attribute.now }
+{
+    Page {
+        columns: machine.columns(),
+        screen,
+        attribute,
+    }
+}
+
 // Names a row that is wild, unless one before it is named.
-fn name(before: FirstWild, row: u8, wild: bool) -> FirstWild
+fn name(before: Option<u8>, row: u8, wild: bool) -> Option<u8>
     ensures { result ≡ named before row wild }
 {
-    if !wild {
-        return before;
-    }
-    match before {
-        FirstWild::Named(first) => FirstWild::Named(first),
-        FirstWild::NoRow => FirstWild::Named(row),
-    }
+    if wild { before.or(Some(row)) } else { before }
 }
 
-fn lengths_picture(screen: usize, attribute: usize, picture: usize) -> bool
-    ensures { result ≡ lengths_picture screen attribute picture }
+// The record of a row, in its part of the picture.
+fn draw_part(page: &Page, row: &RowRead, part: &mut [u8])
+    requires fits { row.now.cells ≤ record_pairs }
+    requires room { length part.old ≡ record_bytes }
+    ensures { part.new
+        ≡ record_read page.now.screen.now page.now.attribute.now row.now }
 {
-    lent::three_lengths(
-        screen,
-        lent::SCREEN_BYTES,
-        attribute,
-        lent::ATTRIBUTE_BYTES,
-        picture,
-        lent::PICTURE_BYTES,
-    )
+    let Some(record) = part.as_mut_array() else {
+        unreachable!()
+    };
+    records::draw_row(page, row, record);
 }
 
-fn draw_rows(columns: usize, screen: &[u8], attribute: &[u8], picture: &mut [u8]) -> Drawn
-    requires screen_len { length screen.now ≡ screen_bytes }
-    requires attribute_len { length attribute.now ≡ attribute_bytes }
-    requires picture_len { length picture.old ≡ picture_bytes }
-    requires columns_le_record_pairs { columns ≤ record_pairs }
-    ensures value { result ≡ answer_of (chain columns screen.now attribute.now) }
-    ensures picture_after { picture.new
-        ≡ picture_of (chain columns screen.now attribute.now) }
+fn draw_rows(page: &Page, picture: &mut Picture) -> Drawing
+    ensures reads { result.reads ≡ walk_reads (chain_on page.now) }
+    ensures wild { result.wild ≡ first_wild (chain_on page.now) }
+    ensures picture_after { picture.new ≡ picture_of (chain_on page.now) }
 {
-    let mut ahead = Ahead::Row(Head::first());
+    let mut ahead = Some(Head::first());
     let mut reads = 0;
-    let mut wild = FirstWild::NoRow;
-    let mut row = 0;
-    while row < chain::ROWS {
+    let mut wild = None;
+    for row in 0..chain::ROWS {
         let at = row * records::RECORD_BYTES;
         let end = at + records::RECORD_BYTES;
-        let read = records::read_ahead(columns, screen, attribute, ahead);
-        records::draw_row(screen, attribute, read, &mut picture[at..end]);
+        let read = records::read_ahead(page, ahead);
+        draw_part(page, &read, &mut picture[at..end]);
         reads += read.reads;
         wild = name(wild, row as u8, read.wild);
         ahead = read.next;
-        row += 1;
     }
-    Drawn::accepted(reads as u16, wild)
+    Drawing {
+        reads: reads as u16,
+        wild,
+    }
 }
 
 // Draws the picture afresh from screen and attribute memory.
-pub fn draw(machine: Machine, screen: &[u8], attribute: &[u8], picture: &mut [u8]) -> Drawn
-    ensures { drawn result picture.new
+#[tactic(auto, unfolding(crate::specs::Draw::lengths_picture))]
+pub fn draw(
+    machine: Machine,
+    screen: &[u8],
+    attribute: &[u8],
+    picture: &mut [u8],
+) -> Result<Drawing, Refusal>
+    ensures { drawn (drawing_answered result) picture.new
         ≡ draw machine screen.now attribute.now picture.old }
 {
-    if !lengths_picture(screen.len(), attribute.len(), picture.len()) {
-        return Drawn::refused(lent::LENGTH);
-    }
-    draw_rows(machine.columns(), screen, attribute, picture)
+    let screen = lent::lend(screen)?;
+    let attribute = lent::lend(attribute)?;
+    let picture = picture.as_mut_array().ok_or(Refusal::Length)?;
+    let page = page_of(machine, screen, attribute);
+    Ok(draw_rows(&page, picture))
 }

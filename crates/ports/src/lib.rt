@@ -2,75 +2,59 @@
 #![tactic(auto)]
 
 ghost use Rattle.std.specs.Prelude.{◌≡◌};
+ghost use Rattle.machine.specs.Written.{done, written};
 ghost use Rattle.diagnostic.specs.Diagnostic.{written_port};
-ghost use Rattle.ports.specs.Ports.{is_port, refusal_port, watched, write_port};
+ghost use Rattle.ports.specs.Ports.{watched, write_port};
 
 use dc011::write_dc011;
 use dc012::write_dc012;
 use diagnostic::write_diagnostic;
-use machine::{Machine, Written};
+use lent::{NVM_BYTES, Refusal, SHADOW_BYTES, lend};
+use machine::Machine;
 
 // Writes a code to a port. The shadow and the NVM are lent for the copies that port 0A starts.
+#[tactic(auto, unfolding(crate::specs::Ports::lengths_nvm, crate::specs::Ports::refusal_port))]
 pub fn write_port(
     machine: Machine,
     shadow: &mut [u8],
     nvm: &mut [u8],
     port: u16,
     code: u8,
-) -> Written
-    ensures { written_port result shadow.new nvm.new
+) -> Result<Machine, Refusal>
+    ensures { written_port (written machine result) shadow.new nvm.new
         ≡ write_port machine shadow.old nvm.old port code }
 {
-    let refusal = refusal_port(machine, shadow.len(), nvm.len(), port);
-    if refusal != lent::ACCEPTED {
-        return Written { refusal, machine };
-    }
+    lend::<SHADOW_BYTES>(shadow)?;
+    lend::<NVM_BYTES>(nvm)?;
+    machine.stop_of_8088()?;
     match port {
         0x04 => write_dc011(machine, code),
-        0x0A => write_diagnostic(machine, shadow, nvm, code),
-        0x0C => watched(write_dc012(machine, code), true),
-        // 10C: no other port comes so far.
-        _ => watched(write_dc012(machine, code), false),
+        0x0A => {
+            let Some(shadow) = shadow.as_mut_array::<SHADOW_BYTES>() else {
+                unreachable!()
+            };
+            let Some(nvm) = nvm.as_mut_array::<NVM_BYTES>() else {
+                unreachable!()
+            };
+            write_diagnostic(machine, shadow, nvm, code)
+        }
+        0x0C => Ok(watched(write_dc012(machine, code)?, true)),
+        0x10C => Ok(watched(write_dc012(machine, code)?, false)),
+        _ => Err(Refusal::Port),
     }
 }
 
-// By what a write is refused ahead of the port itself, which may refuse the code.
-fn refusal_port(machine: Machine, shadow: usize, nvm: usize, port: u16) -> u8
-    ensures { result ≡ refusal_port machine shadow nvm port }
+// An accepted write to a port of the DC012 also enables or disables the watchdog. The count starts anew where the
+// watchdog is enabled, and stays 0 where it is disabled.
+fn watched(machine: Machine, enabled: bool) -> Machine
+    ensures { done result ≡ watched (done machine) enabled }
 {
-    let lengths = lent::two_lengths(shadow, lent::SHADOW_BYTES, nvm, lent::NVM_BYTES);
-    let own = lent::number_if(!is_port(port), lent::PORT);
-    lent::refusal(lengths, machine.stop_of_8088(), own)
-}
-
-fn is_port(port: u16) -> bool
-    ensures { result ≡ is_port port }
-{
-    match port {
-        0x04 => true,
-        0x0A => true,
-        0x0C => true,
-        0x10C => true,
-        _ => false,
+    if enabled && machine.watchdog {
+        return machine;
     }
-}
-
-// An accepted write to a port of the DC012 also enables or disables the watchdog; a refused one does
-// neither. The count starts anew where the watchdog is enabled, and stays 0 where it is disabled.
-fn watched(written: Written, enabled: bool) -> Written
-    ensures { result ≡ watched written enabled }
-{
-    if written.refusal != lent::ACCEPTED {
-        return written;
-    }
-    let mut machine = written.machine;
-    let stays = enabled & machine.watchdog;
-    if !stays {
-        machine.watchdog = enabled;
-        machine.count = 0;
-    }
-    Written {
-        refusal: lent::ACCEPTED,
-        machine,
+    Machine {
+        watchdog: enabled,
+        count: 0,
+        ..machine
     }
 }

@@ -17,7 +17,7 @@ pub extern "C" fn rainbow_index_readers(
     ensures { indexed result index.new
         ≡ index_readers machine screen.now attribute.now index.old }
 {
-    index::index_readers(machine, screen, attribute, index)
+    lent::answered(index::index_readers(machine, screen, attribute, index))
 }
 
 // Stores a byte as the 8088 does, takes the first row that reads it from the index, mends picture and index from there,
@@ -39,7 +39,7 @@ pub extern "C" fn rainbow_store_with_index(
         shared.old screen.old attribute.old picture.old index.old
         address byte }
 {
-    index::store_with_index(
+    Stored::from(index::store_with_index(
         machine, shared, screen, attribute, picture, index, address, byte,
-    )
+    ))
 }

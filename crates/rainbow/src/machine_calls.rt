@@ -96,5 +96,5 @@ pub extern "C" fn rainbow_write_port(
     ensures { written_port result shadow.new nvm.new
         ≡ write_port machine shadow.old nvm.old port code }
 {
-    ports::write_port(machine, shadow, nvm, port, code)
+    Written::told(machine, ports::write_port(machine, shadow, nvm, port, code))
 }

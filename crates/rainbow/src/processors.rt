@@ -19,7 +19,7 @@ pub extern "C" fn rainbow_read_8088(
     ensures { result
         ≡ read_8088 machine shared.now screen.now attribute.now address }
 {
-    memories::read_8088(machine, shared, screen, attribute, address)
+    ByteRead::from(memories::read_8088(machine, shared, screen, attribute, address))
 }
 
 // Stores a byte as the 8088 does, with no picture lent.
@@ -35,7 +35,7 @@ pub extern "C" fn rainbow_store_8088(
     ensures { stored_8088 result shared.new screen.new attribute.new
         ≡ store_8088 machine shared.old screen.old attribute.old address byte }
 {
-    memories::store_8088(machine, shared, screen, attribute, address, byte)
+    lent::answered(memories::store_8088(machine, shared, screen, attribute, address, byte))
 }
 
 // Reads a byte as the Z80 does.
@@ -48,7 +48,7 @@ pub extern "C" fn rainbow_read_z80(
 ) -> ByteRead
     ensures { result ≡ read_z80 machine private.now shared.now address }
 {
-    memories::read_z80(machine, private, shared, address)
+    ByteRead::from(memories::read_z80(machine, private, shared, address))
 }
 
 // Stores a byte as the Z80 does.
@@ -63,7 +63,7 @@ pub extern "C" fn rainbow_store_z80(
     ensures { stored_z80 result private.new shared.new
         ≡ store_z80 machine private.old shared.old address byte }
 {
-    memories::store_z80(machine, private, shared, address, byte)
+    lent::answered(memories::store_z80(machine, private, shared, address, byte))
 }
 
 // Reads the low four bits at a place of the shadow.
@@ -71,7 +71,7 @@ pub extern "C" fn rainbow_store_z80(
 pub extern "C" fn rainbow_read_shadow(machine: Machine, shadow: &[u8], place: usize) -> ByteRead
     ensures { result ≡ read_shadow machine shadow.now place }
 {
-    shadow::read_shadow(machine, shadow, place)
+    ByteRead::from(shadow::read_shadow(machine, shadow, place))
 }
 
 // Writes four bits at a place of the shadow.
@@ -85,5 +85,5 @@ pub extern "C" fn rainbow_write_shadow(
     ensures { written_shadow result shadow.new
         ≡ write_shadow machine shadow.old place value }
 {
-    shadow::write_shadow(machine, shadow, place, value)
+    lent::answered(shadow::write_shadow(machine, shadow, place, value))
 }

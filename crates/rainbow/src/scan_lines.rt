@@ -9,7 +9,7 @@ use machine::Machine;
 
 // Where a code's bytes stand in the table, and how many there are. A reference cannot be handed to C.
 #[repr(C)]
-#[derive(Clone, Copy)]
+#[derive(Clone, Copy, Debug, PartialEq, Eq)]
 pub struct PartPlace {
     pub refusal: u8,
     pub at: usize,
@@ -21,20 +21,17 @@ pub struct PartPlace {
 pub extern "C" fn rainbow_glyph_part(table: &[u8], code: u8) -> PartPlace
     ensures { result ≡ part_place table.now code }
 {
-    let part = glyphs::part(table, code);
-    let refusal = glyphs::refusal(part);
-    let length = part.len();
-    if refusal != lent::ACCEPTED {
-        return PartPlace {
-            refusal,
+    match glyphs::part(table, code) {
+        Ok(part) => PartPlace {
+            refusal: lent::ACCEPTED,
+            at: code as usize * glyphs::CODE_BYTES,
+            length: part.len(),
+        },
+        Err(refusal) => PartPlace {
+            refusal: refusal.number(),
             at: 0,
-            length,
-        };
-    }
-    PartPlace {
-        refusal,
-        at: code as usize * glyphs::CODE_BYTES,
-        length,
+            length: 0,
+        },
     }
 }
 
@@ -51,7 +48,7 @@ pub extern "C" fn rainbow_scan_line(
     ensures { drawn_line result line.new
         ≡ draw_line machine picture.now table.now row scan line.old }
 {
-    scan_line::draw(machine, picture, table, row, scan, line)
+    lent::answered(scan_line::draw(machine, picture, table, row, scan, line))
 }
 
 // How many dots a scan line has: 800 or 1,188.
@@ -68,5 +65,5 @@ pub extern "C" fn rainbow_list_lines(machine: Machine, picture: &[u8], list: &mu
     ensures { listed result list.new
         ≡ list_lines machine picture.now list.old }
 {
-    whole_screen::list_lines(machine, picture, list)
+    lent::answered(whole_screen::list_lines(machine, picture, list))
 }

@@ -22,7 +22,7 @@ pub extern "C" fn rainbow_draw(
     ensures { drawn result picture.new
         ≡ draw machine screen.now attribute.now picture.old }
 {
-    picture::draw(machine, screen, attribute, picture)
+    Drawn::from(picture::draw(machine, screen, attribute, picture))
 }
 
 // Stores a byte as the 8088 does, mends the picture, and marks the rows that changed.
@@ -41,7 +41,9 @@ pub extern "C" fn rainbow_store_with_picture(
         ≡ store_with_picture machine
         shared.old screen.old attribute.old picture.old address byte }
 {
-    mending::store_with_picture(machine, shared, screen, attribute, picture, address, byte)
+    Stored::from(mending::store_with_picture(
+        machine, shared, screen, attribute, picture, address, byte,
+    ))
 }
 
 // Whether a row is among the marks of a store.
@@ -64,5 +66,5 @@ pub extern "C" fn rainbow_explain(
     ensures { result
         ≡ told (explain machine screen.now attribute.now row column) }
 {
-    explaining::tell(explaining::explain(machine, screen, attribute, row, column))
+    Explained::from(explaining::explain(machine, screen, attribute, row, column))
 }

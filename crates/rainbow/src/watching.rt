@@ -20,7 +20,7 @@ pub extern "C" fn rainbow_start_viewers() -> Viewers
 pub extern "C" fn rainbow_ask(viewers: Viewers, viewer: usize) -> Asked
     ensures { result ≡ ask viewers viewer }
 {
-    viewers.ask(viewer)
+    Asked::told(viewers, viewers.ask(viewer))
 }
 
 // Draws the picture afresh, and sets all rows for all viewers.
@@ -35,7 +35,8 @@ pub extern "C" fn rainbow_draw_for_viewers(
     ensures { drawn_serving result picture.new
         ≡ draw_for_viewers machine viewers screen.now attribute.now picture.old }
 {
-    viewers::draw_for_viewers(machine, viewers, screen, attribute, picture)
+    let outcome = viewers::draw_for_viewers(machine, viewers, screen, attribute, picture);
+    DrawnForViewers::told(viewers, outcome)
 }
 
 // Stores a byte as the 8088 does, mends the picture, and adds the marks to those of every viewer.
@@ -55,9 +56,10 @@ pub extern "C" fn rainbow_store_for_viewers(
         ≡ store_for_viewers machine viewers
         shared.old screen.old attribute.old picture.old address byte }
 {
-    viewers::store_for_viewers(
+    let outcome = viewers::store_for_viewers(
         machine, viewers, shared, screen, attribute, picture, address, byte,
-    )
+    );
+    StoredForViewers::told(viewers, outcome)
 }
 
 // The same store with an index lent.
@@ -79,7 +81,8 @@ pub extern "C" fn rainbow_store_with_index_for_viewers(
         shared.old screen.old attribute.old picture.old index.old
         address byte }
 {
-    viewers::store_with_index_for_viewers(
+    let outcome = viewers::store_with_index_for_viewers(
         machine, viewers, shared, screen, attribute, picture, index, address, byte,
-    )
+    );
+    StoredForViewers::told(viewers, outcome)
 }

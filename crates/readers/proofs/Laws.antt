@@ -7,13 +7,11 @@ use native.Mathlib.Nat.{mod-mod}
 use native.Mathlib.Omega.{arith}
 use lib.Dec.{eqb, ltb}
 use borrow.Author.Tests.{lt-ltb, le-ltb, eq-eqb, ne_eqb, eqb-true, eqb-false}
+use Rattle.std.specs.Prelude.{Option, Some, None}
 use Rattle.memories.specs.declared.view8088.Seen.{Seen}
-use Rattle.memories.specs.declared.view8088.Seen.TheVariants.{Shared, Screen, Attribute, Nowhere}
-use Rattle.chain.specs.Chain.{places, first_ff}
+use Rattle.memories.specs.declared.view8088.Seen.TheVariants.{Shared, Screen, Attribute}
+use Rattle.chain.specs.Chain.{places}
 use Rattle.chain.specs.Reading.{from}
-use Rattle.chain.specs.declared.Terminator.{Terminator}
-use Rattle.chain.specs.declared.Terminator.TheVariants.{After}
-use Rattle.chain.proofs.Laws.{found_within}
 use Rattle.readers.specs.Readers.{among, reads_byte}
 
 -- how many bytes after a start a place comes
@@ -78,15 +76,9 @@ among_both place (one ∷ first) second = go (eqb place one) (among_both place f
     go false later = later
 
 -- a dark row reads nothing
-pub none_read : (seen : Seen) → reads_byte seen [] [] ≡ false
+pub none_read : (seen : Option Seen) → reads_byte seen [] [] ≡ false
 unfolding among
-none_read (Shared place) = refl
-none_read (Screen place) = refl
-none_read (Attribute place) = refl
-none_read Nowhere = refl
-
--- what a whole row reads is no more than the memory holds
-pub whole_fits :
-    (screen : List ℕ) (start : ℕ) {cap columns n : ℕ} {t : Terminator} → t ≡ first_ff screen start 0 (cap + 1) → t ≡ After n
-    → cap ≤ columns → columns + 3 ≤ places → n + 3 ≤ places
-whole_fits screen start {cap} found is most room = omega (arith, found_within screen start 0 (cap + 1) (sym found ∙ is))
+none_read (Some (Shared place)) = refl
+none_read (Some (Screen place)) = refl
+none_read (Some (Attribute place)) = refl
+none_read None = refl

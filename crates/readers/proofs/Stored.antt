@@ -9,8 +9,9 @@ use lib.ListN.{get_or, set}
 use lib.Seq.{get_or-set_other, set-set, set-get_or}
 use lib.Dec.{eqb}
 use borrow.Author.Tests.{eqb-false}
+use Rattle.std.specs.Prelude.{Option, Some, None}
 use Rattle.memories.specs.declared.view8088.Seen.{Seen}
-use Rattle.memories.specs.declared.view8088.Seen.TheVariants.{Shared, Screen, Attribute, Nowhere}
+use Rattle.memories.specs.declared.view8088.Seen.TheVariants.{Shared, Screen, Attribute}
 use Rattle.chain.specs.Chain.{Chain, Row, Whole, Torn, Dark, places, byte_at, capacity, row_at}
 use Rattle.chain.specs.Reading.{from, screen_read, attribute_read}
 use Rattle.chain.specs.Alike.{bytes_at, read_ahead_of_high, low_four}
@@ -43,16 +44,16 @@ module _ (memory : List ℕ) (place byte : ℕ) where
       simp map-append (rw (f none.0, s none.1))
 
 -- the byte that stands where it is stored
-abbrev stood : Seen → Chain → ℕ
-stood (Shared place) c = 0
-stood (Screen place) c = get_or c.screen place 0
-stood (Attribute place) c = get_or c.attribute place 0
-stood Nowhere c = 0
+abbrev stood : Option Seen → Chain → ℕ
+stood (Some (Shared place)) c = 0
+stood (Some (Screen place)) c = get_or c.screen place 0
+stood (Some (Attribute place)) c = get_or c.attribute place 0
+stood None c = 0
 
 pub unread_leaves : UnreadLeaves
 unfolding read_ahead_of_high low_four screen_read attribute_read
-unread_leaves c (Shared place) byte shared row unread = record { columns = refl; screen = refl; high = refl; attribute = refl }
-unread_leaves c (Screen place) byte shared row unread =
+unread_leaves c (Some (Shared place)) byte shared row unread = record { columns = refl; screen = refl; high = refl; attribute = refl }
+unread_leaves c (Some (Screen place)) byte shared row unread =
     let both = go row unread in
     record { columns = refl; screen = both.0; high = both.1; attribute = refl }
   where
@@ -71,7 +72,7 @@ unread_leaves c (Screen place) byte shared row unread =
         (shorter_alike c.screen new start (cells + 2) (rw last at all), rw (add_assoc start cells 2, high))
     go (Torn head) h = (from_leaves c.screen place byte head.start (capacity c.columns head.kind + 1) h, refl)
     go Dark h = (refl, refl)
-unread_leaves c (Attribute place) byte shared row unread =
+unread_leaves c (Some (Attribute place)) byte shared row unread =
     record { columns = refl; screen = refl; high = refl; attribute = go row unread }
   where
     go : (row : Row) → Leaves c.attribute place byte (attribute_read c row)
@@ -81,14 +82,14 @@ unread_leaves c (Attribute place) byte shared row unread =
         (from_leaves c.attribute place byte (head.start + cells + 1) 1)
     go (Torn head) = from_leaves c.attribute place byte head.start (capacity c.columns head.kind)
     go Dark = λ h. refl
-unread_leaves c Nowhere byte shared row unread = record { columns = refl; screen = refl; high = refl; attribute = refl }
+unread_leaves c None byte shared row unread = record { columns = refl; screen = refl; high = refl; attribute = refl }
 
-module _ (c : Chain) (seen : Seen) (byte : ℕ) (shared : List ℕ) where
+module _ (c : Chain) (seen : Option Seen) (byte : ℕ) (shared : List ℕ) where
   abbrev after : Chain
   after = chain_stored c seen byte shared
 
   -- which places a row reads is told by the row and the column setting alone
-  same_places : (one : Seen) (row : Row) → row_reads after one row ≡ row_reads c one row
+  same_places : (one : Option Seen) (row : Row) → row_reads after one row ≡ row_reads c one row
   unfolding screen_read attribute_read
   same_places one (Whole head cells) = refl
   same_places one (Torn head) = refl
@@ -96,7 +97,7 @@ module _ (c : Chain) (seen : Seen) (byte : ℕ) (shared : List ℕ) where
 
   -- so a row ahead of f reads after the store what it read before
   pub reads_alike :
-      (one : Seen) (row : ℕ) → row < first_reader c seen → row_reads after one (row_at after row) ≡ row_reads c one (row_at c row)
+      (one : Option Seen) (row : ℕ) → row < first_reader c seen → row_reads after one (row_at after row) ≡ row_reads c one (row_at c row)
   reads_alike one row ahead =
       let unread = (is_first c seen).1.1 in
       let same = (rows_are_what_they_read c after (first_reader c seen)
@@ -112,13 +113,13 @@ module _ (c : Chain) (seen : Seen) (byte : ℕ) (shared : List ℕ) where
 
 -- a store of the byte that stood there gives the chain back
 put_back :
-    (c : Chain) (seen : Seen) (byte : ℕ) (shared : List ℕ)
+    (c : Chain) (seen : Option Seen) (byte : ℕ) (shared : List ℕ)
     → chain_stored (chain_stored c seen byte shared) seen (stood seen c) shared ≡ c
-put_back c (Shared place) byte shared = refl
-put_back c (Screen place) byte shared = rw (set-set c.screen place byte (get_or c.screen place 0), set-get_or c.screen place 0)
-put_back c (Attribute place) byte shared =
+put_back c (Some (Shared place)) byte shared = refl
+put_back c (Some (Screen place)) byte shared = rw (set-set c.screen place byte (get_or c.screen place 0), set-get_or c.screen place 0)
+put_back c (Some (Attribute place)) byte shared =
     rw (set-set c.attribute place byte (get_or c.attribute place 0), set-get_or c.attribute place 0)
-put_back c Nowhere byte shared = refl
+put_back c None byte shared = refl
 
 pub either_walk : EitherWalk
 either_walk c seen byte shared =

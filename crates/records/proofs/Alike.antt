@@ -17,11 +17,9 @@ module _ (c d : Chain) (start : ℕ) where
   unfolding cell_pairs
   cells_alike zero screen attribute = refl
   cells_alike (suc n) screen attribute =
-      rw (
-        cells_alike n (λ i h. screen i (omega arith)) (λ i h. attribute i (omega arith)),
-        screen n (omega arith),
-        attribute n (omega arith),
-      )
+      let before =
+      cells_alike n (λ i h. screen i (omega arith)) (λ i h. attribute i (omega arith)) in
+      grind (arith, screen n, attribute n)
 
 pub record_is_what_it_reads : RecordIsWhatItReads
 unfolding record_of cell_pairs read_ahead_of_high screen_read attribute_read

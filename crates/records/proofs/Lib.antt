@@ -1,5 +1,5 @@
-pub mod Laws
-pub mod Cells
+pub mod Filled
+pub mod Pairs
 pub mod Rows
 pub mod Alike
 pub mod Record

@@ -1,12 +1,10 @@
 -- No sentence of document 01: what our own functions promise each other. Here those that draw one row.
-use Rattle.std.specs.Prelude.{ℕ, zero, suc, ◌-◌, ◌%◌, List, [], ◌∷◌, ◌++◌, false, get_or, drop}
+use Rattle.std.specs.Prelude.{ℕ, zero, suc, ◌-◌, ◌%◌, List, [], ◌∷◌, ◌++◌, false, Option, None, slice_index, drop}
 use Rattle.chain.specs.Chain.{Chain, Row}
 use Rattle.chain.specs.Reading.{reads}
 use Rattle.chain.specs.Wild.{wild}
 use Rattle.chain.specs.Inner.{row_ahead, ahead_after}
 use Rattle.chain.specs.declared.Head.{Head}
-use Rattle.chain.specs.declared.Ahead.{Ahead}
-use Rattle.chain.specs.declared.Ahead.TheVariants.{Dark}
 use Rattle.records.specs.Record.{head_bytes, record_pairs, cell_pairs, count, cells_shown, fill_pairs, head_of, header}
 use Rattle.records.specs.declared.RowRead.{RowRead}
 
@@ -18,7 +16,7 @@ pairs_of bytes = drop head_bytes bytes
 unfoldable pub pairs_in : (characters attributes : List ℕ) → (cells : ℕ) → List ℕ
 pairs_in characters attributes zero = []
 pairs_in characters attributes (suc cell) =
-    pairs_in characters attributes cell ++ (get_or characters cell 0 ∷ get_or attributes cell 0 % 16 ∷ [])
+    pairs_in characters attributes cell ++ (slice_index characters cell ∷ slice_index attributes cell % 16 ∷ [])
 
 -- what the reading of a row comes to: its head, its cells and its count; what it has read, whether its link is wild (02,
 -- ticket 1: "The reading of one row should now also say" so), and what it leads to
@@ -34,13 +32,13 @@ read_of c row =
     }
 
 -- of the row that lies ahead
-abbrev pub row_read : Chain → Ahead → RowRead
+abbrev pub row_read : Chain → Option Head → RowRead
 row_read c ahead = read_of c (row_ahead c ahead)
 
 -- of a row that has no link: it is not wild, and leads to a dark one
 abbrev pub no_link : (head : Head) → (cells count reads : ℕ) → RowRead
 no_link head cells count reads =
-    record { head = head; cells = cells; count = count; reads = reads; wild = false; next = Dark }
+    record { head = head; cells = cells; count = count; reads = reads; wild = false; next = None }
 
 -- the record of a row that was read
 abbrev pub record_read : (screen attribute : List ℕ) → RowRead → List ℕ

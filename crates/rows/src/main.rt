@@ -4,16 +4,15 @@
 
 use lent::{ATTRIBUTE_BYTES, PICTURE_BYTES, SCREEN_BYTES};
 use listing::TEXT_BYTES;
-use picture::Drawn;
+use picture::Drawing;
 use std::io;
 
 // On standard error, so that the list stays what its readers know.
-fn tell_wild(rt: &HostRuntime, drawn: Drawn) -> io::Result<()> {
-    if !drawn.wild {
-        return Ok(());
+fn tell_wild(rt: &HostRuntime, drawing: Drawing) -> io::Result<()> {
+    match drawing.wild {
+        Some(row) => eprintln!(rt; "rows: the link of row {row} is wild"),
+        None => Ok(()),
     }
-    let row = drawn.wild_row;
-    eprintln!(rt; "rows: the link of row {row} is wild")
 }
 
 fn main(rt: HostRuntime) -> io::Result<()> {
@@ -36,5 +35,8 @@ fn main(rt: HostRuntime) -> io::Result<()> {
     );
     let text_bytes = listed.bytes;
     rt.write_all(&text[..text_bytes])?;
-    tell_wild(&rt, listed.drawn)
+    match listed.drawn {
+        Ok(drawing) => tell_wild(&rt, drawing),
+        Err(_) => Ok(()),
+    }
 }

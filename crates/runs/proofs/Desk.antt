@@ -1,6 +1,7 @@
 -- What a desk sees that stores where it was told to: the statement of specs/Desk.antt.
 use Prim.Native.Nat.{ℕ, ◌+◌, ◌≤◌, ◌<◌}
 use mathlib.Core.Path.{◌≡◌, refl, sym, ap, subst, ◌∙◌}
+use Rattle.std.specs.Prelude.{Some, Ok, Err}
 use mathlib.Core.List.{List}
 use mathlib.Core.Bool.{Bool, true, false, not, cond, ◌&&◌}
 use native.Mathlib.Nat.{mod-lt}
@@ -32,7 +33,7 @@ use Rattle.explaining.specs.Explain.{why}
 use Rattle.explaining.specs.Call.{on_screen, refusal_explain}
 use Rattle.explaining.specs.Shown.{Shows}
 use Rattle.explaining.specs.Desk.{Told}
-use Rattle.explaining.specs.declared.Why.TheVariants.{Refused, Cell}
+use Rattle.explaining.specs.declared.Why.TheVariants.{Cell}
 use Rattle.explaining.proofs.Laws.{on_screen_lem}
 use Rattle.explaining.proofs.Shown.{holds_as, shows_what_it_says}
 use Rattle.explaining.proofs.Desk.{desk_promise}
@@ -42,14 +43,14 @@ use Rattle.runs.proofs.Worlds.{picture_refusal}
 use Rattle.runs.proofs.Kept.{drawable_too}
 
 -- the 8088 sees a place of screen memory at its address
-at_screen : (place : ℕ) → place < places → seen_8088 (0xEE000 + place) ≡ InScreen place
+at_screen : (place : ℕ) → place < places → seen_8088 (0xEE000 + place) ≡ Some (InScreen place)
 unfolding seen_8088
 at_screen place h =
     rw (
       over 0x00000 0x0FFFF (0xEE000 + place) (omega arith),
       inside 0xEE000 0xEEFFF (0xEE000 + place) (omega arith) (omega arith),
     )
-    (ap InScreen (omega arith))
+    (ap (λ (at : ℕ). Some (InScreen at)) (omega arith))
 
 module _ (w : World) (row column place byte : ℕ) (a : Asked w row column place byte) where
   abbrev before : Chain
@@ -62,14 +63,14 @@ module _ (w : World) (row column place byte : ℕ) (a : Asked w row column place
   asked = go (refuses refusal) refl a.named
     where
       go :
-          (b : Bool) → refuses refusal ≡ b → cond b (Refused refusal) (why before row column) ≡ Cell place a.kind a.led
+          (b : Bool) → refuses refusal ≡ b → cond b (Err refusal) (Ok (why before row column)) ≡ Ok (Cell place a.kind a.led)
           → (row < rows) × (why before row column ≡ Cell place a.kind a.led)
       go true h e = let z : ◌≡◌ {A = ℕ} 0 1 = cc in absurd (omega arith)
       go false h e =
           let both =
           passed (eqb (length (w.bytes Screen)) screen_bytes && eqb (length (w.bytes Attribute)) attribute_bytes) (not (on_screen row column)) place_refused
           (λ e. omega (arith, e)) (is_accepted refusal h) in
-          ((on_screen_lem row column (not-false _ both.1)).0, e)
+          ((on_screen_lem row column (not-false _ both.1)).0, cc)
 
   within : place < places
   within =
@@ -115,7 +116,7 @@ module _ (w : World) (row column place byte : ℕ) (a : Asked w row column place
 
   -- the chain after the store
   abbrev later : Chain
-  later = chain_stored before (InScreen place) byte (w.bytes Shared)
+  later = chain_stored before (Some (InScreen place)) byte (w.bytes Shared)
 
   is_later : chain_of w.machine left.screen left.attribute ≡ later
   is_later =

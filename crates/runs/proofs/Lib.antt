@@ -1,3 +1,4 @@
+pub mod Told
 pub mod NoSecond
 pub mod Worlds
 pub mod Ports

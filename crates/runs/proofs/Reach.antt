@@ -1,6 +1,7 @@
 -- What each call may change, that lengths stay, and what each call sees: the statements of specs/Reach.antt.
 use Prim.Native.Nat.{ℕ, ◌+◌, ◌≤◌}
 use mathlib.Core.Path.{◌≡◌, refl, subst, sym, ap, ◌∙◌}
+use Rattle.std.specs.Prelude.{Option, Some, None}
 use mathlib.Core.List.{List, [], ◌∷◌}
 use mathlib.Core.Bool.{Bool, true, false, not, cond, ◌&&◌, ◌||◌, true≢false}
 use native.Mathlib.Omega.{arith}
@@ -19,7 +20,7 @@ use Rattle.memories.specs.View8088.{seen_8088}
 use Rattle.memories.specs.ViewZ80.{shared_from, is_private}
 use Rattle.memories.proofs.Laws.{is_accepted}
 use Rattle.memories.specs.declared.view8088.Seen.{Seen}
-use Rattle.memories.specs.declared.view8088.Seen.TheVariants.{Shared as InShared, Screen as InScreen, Attribute as InAttribute, Nowhere}
+use Rattle.memories.specs.declared.view8088.Seen.TheVariants.{Shared as InShared, Screen as InScreen, Attribute as InAttribute}
 use Rattle.shadow.specs.Shadow.{refusal_shadow, WrittenShadow}
 use Rattle.diagnostic.specs.Diagnostic.{WrittenPort, rises, write_diagnostic}
 use Rattle.ports.specs.Ports.{refusal_port, write_port}
@@ -185,15 +186,15 @@ accepted_list w e =
     ((both_equal picture picture_bytes list list_bytes both.0).1, ltb-false latch_most (scroll_latch w.machine) both.1)
 
 stored_leaves :
-    (seen : Seen) (byte : ℕ) (w : World) (part : Part) → has (stored_at seen) part ≡ false → Same part (stored_in seen byte w) w
-stored_leaves (InShared place) byte w part h = shared_leaves w place byte part h
-stored_leaves (InScreen place) byte w part h = with_leaves Screen _ w refl part (apart (AllOf Screen) [] part h).0
-stored_leaves (InAttribute place) byte w part h = with_leaves Attribute _ w refl part (apart (AllOf Attribute) [] part h).0
-stored_leaves Nowhere byte w part h = same_refl part w
+    (seen : Option Seen) (byte : ℕ) (w : World) (part : Part) → has (stored_at seen) part ≡ false → Same part (stored_in seen byte w) w
+stored_leaves (Some (InShared place)) byte w part h = shared_leaves w place byte part h
+stored_leaves (Some (InScreen place)) byte w part h = with_leaves Screen _ w refl part (apart (AllOf Screen) [] part h).0
+stored_leaves (Some (InAttribute place)) byte w part h = with_leaves Attribute _ w refl part (apart (AllOf Attribute) [] part h).0
+stored_leaves None byte w part h = same_refl part w
 
 -- a store of the 8088 may change its three memories and no other part
 pub stored_apart :
-    (seen : Seen) (part : Part) → has (AllOf Shared ∷ Below0800 ∷ From0800 ∷ AllOf Screen ∷ AllOf Attribute ∷ []) part ≡ false
+    (seen : Option Seen) (part : Part) → has (AllOf Shared ∷ Below0800 ∷ From0800 ∷ AllOf Screen ∷ AllOf Attribute ∷ []) part ≡ false
     → has (stored_at seen) part ≡ false
 unfolding has
 stored_apart seen part h = go seen
@@ -217,11 +218,11 @@ stored_apart seen part h = go seen
     halves true = rw (shared.0, below.0)
     halves false = rw (shared.0, from.0)
 
-    go : (one : Seen) → has (stored_at one) part ≡ false
-    go (InShared place) = halves (ltb place shared_from)
-    go (InScreen place) = rw screens.0
-    go (InAttribute place) = screens.1
-    go Nowhere = refl
+    go : (one : Option Seen) → has (stored_at one) part ≡ false
+    go (Some (InShared place)) = halves (ltb place shared_from)
+    go (Some (InScreen place)) = rw screens.0
+    go (Some (InAttribute place)) = screens.1
+    go None = refl
 
 -- another machine leaves every part but the machine, and the bit and reset too if they are the same
 machine_leaves :

@@ -30,6 +30,8 @@ use Rattle.viewers.proofs.Laws.{none_added}
 use Rattle.glyphs.specs.Glyphs.{glyph_part, part_refusal}
 use Rattle.scan_line.specs.Call.{refusal_line, DrawnLine}
 use Rattle.whole_screen.specs.Call.{refusal_list, Listed}
+use Rattle.std.specs.Prelude.{Result}
+use Rattle.explaining.specs.Explain.{why}
 use Rattle.explaining.specs.Call.{refusal_explain}
 use Rattle.explaining.specs.Numbers.{told}
 use Rattle.explaining.specs.declared.Why.{Why}
@@ -199,8 +201,8 @@ changes_nothing (Explain r k) w h = (
   refl,
   either Kept (refuses (refusal_explain (w.bytes Screen) (w.bytes Attribute) r k)) _ _
       (λ _ g. (refl, (refl, (refl, (refl, (refl, (refl, tt)))))))
-      (λ _ g. absurd (g (why_accepted (chain_of w.machine (w.bytes Screen) (w.bytes Attribute)) r k))) h,
+      (λ _ g. absurd (g (why_accepted (why (chain_of w.machine (w.bytes Screen) (w.bytes Attribute)) r k)))) h,
 )
   where
-    Kept : Why → Type 0
-    Kept why = ((told why).refusal ≡ accepted → ⊥) → AllZero (explained_answer (told why)).numbers
+    Kept : Result Why ℕ → Type 0
+    Kept outcome = ((told outcome).refusal ≡ accepted → ⊥) → AllZero (explained_answer (told outcome)).numbers

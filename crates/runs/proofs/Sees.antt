@@ -1,6 +1,7 @@
 -- What each call sees: the statement of specs/Reach.antt that a call goes by nothing else.
 use Prim.Native.Nat.{ℕ, zero, suc, ◌+◌, ◌-◌}
 use mathlib.Core.Path.{◌≡◌, refl, subst, sym, ap, ap₂, ◌∙◌}
+use Rattle.std.specs.Prelude.{Option, Some, None}
 use mathlib.Core.List.{List, [], ◌∷◌}
 use mathlib.Core.Bool.{Bool, true, false, cond}
 use native.Mathlib.Omega.{arith}
@@ -17,7 +18,7 @@ use Rattle.machine.specs.declared.Machine.{Machine}
 use Rattle.memories.specs.View8088.{seen_8088, refusal_8088, store_seen}
 use Rattle.memories.specs.ViewZ80.{shared_from, is_private, seen_z80, refusal_z80, StoredZ80, store_z80}
 use Rattle.memories.specs.declared.view8088.Seen.{Seen}
-use Rattle.memories.specs.declared.view8088.Seen.TheVariants.{Shared as InShared, Screen as InScreen, Attribute as InAttribute, Nowhere}
+use Rattle.memories.specs.declared.view8088.Seen.TheVariants.{Shared as InShared, Screen as InScreen, Attribute as InAttribute}
 use Rattle.memories.proofs.Laws.{access_by_reset, refusal_by_bit, is_accepted, store_refusal}
 use Rattle.shadow.specs.Shadow.{refusal_shadow, WrittenShadow, write_shadow}
 use Rattle.shadow.proofs.Laws.{place_by_reset}
@@ -107,13 +108,13 @@ shared_alike place byte w v (AllOf one) s =
     whole_alike Shared _ _ w v (λ e. ap (λ (l : List ℕ). set l place byte) e) one s
 
 pub stored_alike :
-    (seen : Seen) (byte : ℕ) (w v : World) (part : Part) → Same part w v → Same part (stored_in seen byte w) (stored_in seen byte v)
-stored_alike (InShared place) byte w v part s = shared_alike place byte w v part s
-stored_alike (InScreen place) byte w v part s =
+    (seen : Option Seen) (byte : ℕ) (w v : World) (part : Part) → Same part w v → Same part (stored_in seen byte w) (stored_in seen byte v)
+stored_alike (Some (InShared place)) byte w v part s = shared_alike place byte w v part s
+stored_alike (Some (InScreen place)) byte w v part s =
     with_alike Screen _ _ w v (λ e. ap (λ (l : List ℕ). set l place byte) e) refl part s
-stored_alike (InAttribute place) byte w v part s =
+stored_alike (Some (InAttribute place)) byte w v part s =
     with_alike Attribute _ _ w v (λ e. ap (λ (l : List ℕ). set l place byte) e) refl part s
-stored_alike Nowhere byte w v part s = s
+stored_alike None byte w v part s = s
 
 -- by what a store is refused goes by reset and the lengths that it is lent
 pub refused_alike :
@@ -228,14 +229,14 @@ drawing_alike m screen attribute p q e =
 
 -- what a store leaves of screen and attribute memory goes by nothing in shared memory
 aside_alike :
-    (seen : Seen) (shared other screen attribute : List ℕ) (byte : ℕ)
+    (seen : Option Seen) (shared other screen attribute : List ℕ) (byte : ℕ)
     → let left = store_seen seen shared screen attribute byte in
     let right = store_seen seen other screen attribute byte in
     (left.screen ≡ right.screen) × (left.attribute ≡ right.attribute)
-aside_alike (InShared place) shared other screen attribute byte = (refl, refl)
-aside_alike (InScreen place) shared other screen attribute byte = (refl, refl)
-aside_alike (InAttribute place) shared other screen attribute byte = (refl, refl)
-aside_alike Nowhere shared other screen attribute byte = (refl, refl)
+aside_alike (Some (InShared place)) shared other screen attribute byte = (refl, refl)
+aside_alike (Some (InScreen place)) shared other screen attribute byte = (refl, refl)
+aside_alike (Some (InAttribute place)) shared other screen attribute byte = (refl, refl)
+aside_alike None shared other screen attribute byte = (refl, refl)
 
 abbrev AsSeen : Call → (w v : World) → Type 0
 AsSeen call w v = (answer call w ≡ answer call v) × ((part : Part) → Same part w v → Same part (after call w) (after call v))

@@ -2,6 +2,7 @@
 -- the 8088's stores leave is a world with one byte changed, or none, beside what is drawn there.
 use Prim.Native.Nat.{ℕ, zero, suc}
 use mathlib.Core.Path.{◌≡◌, refl, sym, ap, ◌∙◌, fun_ext}
+use Rattle.std.specs.Prelude.{Option, Some, None}
 use mathlib.Core.List.{List, [], ◌∷◌}
 use mathlib.Core.Bool.{Bool, true, false, cond}
 use lib.ListN.{length, set, length-set}
@@ -12,7 +13,7 @@ use Rattle.lent.proofs.Tests.{either}
 use Rattle.memories.specs.View8088.{seen_8088, refusal_8088, store_seen, Stored8088}
 use Rattle.memories.specs.ViewZ80.{shared_from, is_private, refusal_z80}
 use Rattle.memories.specs.declared.view8088.Seen.{Seen}
-use Rattle.memories.specs.declared.view8088.Seen.TheVariants.{Shared as InShared, Screen as InScreen, Attribute as InAttribute, Nowhere}
+use Rattle.memories.specs.declared.view8088.Seen.TheVariants.{Shared as InShared, Screen as InScreen, Attribute as InAttribute}
 use Rattle.memories.proofs.Laws.{is_accepted}
 use Rattle.chain.specs.Chain.{Chain}
 use Rattle.picture.specs.Draw.{chain_of}
@@ -67,11 +68,11 @@ abbrev pub left_8088 : Stored8088 → World → World
 left_8088 left w =
     with_bytes Shared left.shared (with_bytes Screen left.screen (with_bytes Attribute left.attribute w))
 
-abbrev pub stored_in : Seen → (byte : ℕ) → World → World
-stored_in (InShared place) byte w = with_bytes Shared (set (w.bytes Shared) place byte) w
-stored_in (InScreen place) byte w = with_bytes Screen (set (w.bytes Screen) place byte) w
-stored_in (InAttribute place) byte w = with_bytes Attribute (set (w.bytes Attribute) place byte) w
-stored_in Nowhere byte w = w
+abbrev pub stored_in : Option Seen → (byte : ℕ) → World → World
+stored_in (Some (InShared place)) byte w = with_bytes Shared (set (w.bytes Shared) place byte) w
+stored_in (Some (InScreen place)) byte w = with_bytes Screen (set (w.bytes Screen) place byte) w
+stored_in (Some (InAttribute place)) byte w = with_bytes Attribute (set (w.bytes Attribute) place byte) w
+stored_in None byte w = w
 
 pub none_stored :
     (shared screen attribute : List ℕ) (refusal : ℕ) (w : World) → shared ≡ w.bytes Shared → screen ≡ w.bytes Screen
@@ -90,21 +91,21 @@ as_drawn w e =
     ∙ none_stored (w.bytes Shared) (w.bytes Screen) (w.bytes Attribute) 0 w refl refl refl
 
 pub stored_in_lem :
-    (seen : Seen) (byte : ℕ) (w : World)
+    (seen : Option Seen) (byte : ℕ) (w : World)
     → left_8088 (store_seen seen (w.bytes Shared) (w.bytes Screen) (w.bytes Attribute) byte) w ≡ stored_in seen byte w
-stored_in_lem (InShared place) byte w =
+stored_in_lem (Some (InShared place)) byte w =
     let new = set (w.bytes Shared) place byte in
     ap (λ (u : World). with_bytes Shared new (with_bytes Screen (w.bytes Screen) u)) (with_own Attribute (w.bytes Attribute) w refl)
     ∙ ap (with_bytes Shared new) (with_own Screen (w.bytes Screen) w refl)
-stored_in_lem (InScreen place) byte w =
+stored_in_lem (Some (InScreen place)) byte w =
     let new = set (w.bytes Screen) place byte in
     ap (λ (u : World). with_bytes Shared (w.bytes Shared) (with_bytes Screen new u)) (with_own Attribute (w.bytes Attribute) w refl)
     ∙ with_own Shared (w.bytes Shared) (with_bytes Screen new w) refl
-stored_in_lem (InAttribute place) byte w =
+stored_in_lem (Some (InAttribute place)) byte w =
     let new = with_bytes Attribute (set (w.bytes Attribute) place byte) w in
     ap (with_bytes Shared (w.bytes Shared)) (with_own Screen (w.bytes Screen) new refl)
     ∙ with_own Shared (w.bytes Shared) new refl
-stored_in_lem Nowhere byte w = none_stored (w.bytes Shared) (w.bytes Screen) (w.bytes Attribute) 0 w refl refl refl
+stored_in_lem None byte w = none_stored (w.bytes Shared) (w.bytes Screen) (w.bytes Attribute) 0 w refl refl refl
 
 -- a memory that is as long as it was leaves every length
 pub with_length :
@@ -115,11 +116,11 @@ with_length memory new w e one =
     (λ is. e ∙ ap (λ (m : Memory). length (w.bytes m)) (sym is)) (λ _. refl)
 
 pub stored_length :
-    (seen : Seen) (byte : ℕ) (w : World) (one : Memory) → length ((stored_in seen byte w).bytes one) ≡ length (w.bytes one)
-stored_length (InShared place) byte w one = with_length Shared _ w (length-set (w.bytes Shared) place byte) one
-stored_length (InScreen place) byte w one = with_length Screen _ w (length-set (w.bytes Screen) place byte) one
-stored_length (InAttribute place) byte w one = with_length Attribute _ w (length-set (w.bytes Attribute) place byte) one
-stored_length Nowhere byte w one = refl
+    (seen : Option Seen) (byte : ℕ) (w : World) (one : Memory) → length ((stored_in seen byte w).bytes one) ≡ length (w.bytes one)
+stored_length (Some (InShared place)) byte w one = with_length Shared _ w (length-set (w.bytes Shared) place byte) one
+stored_length (Some (InScreen place)) byte w one = with_length Screen _ w (length-set (w.bytes Screen) place byte) one
+stored_length (Some (InAttribute place)) byte w one = with_length Attribute _ w (length-set (w.bytes Attribute) place byte) one
+stored_length None byte w one = refl
 
 -- what a store of the 8088 leaves: the world as it was where it is refused, and else one with what it draws and with the
 -- byte stored

@@ -1,6 +1,6 @@
 -- Document 02, ticket 6, of the calls: a desk that keeps a picture asks why a cell says what it says, and stores there.
 -- "where no earlier row reads the named cell place, storing there a byte that differs and is not FF changes that cell"
-use Rattle.std.specs.Prelude.{ℕ, ◌+◌, ◌<◌, ◌≡◌, false, get_or}
+use Rattle.std.specs.Prelude.{ℕ, ◌+◌, ◌<◌, ◌≡◌, false, get_or, Option, Some, Ok}
 use Rattle.lent.specs.Refusals.{accepted}
 use Rattle.memories.specs.declared.view8088.Seen.TheVariants.{Screen as InScreen}
 use Rattle.chain.specs.Chain.{row_at}
@@ -9,7 +9,6 @@ use Rattle.picture.specs.Draw.{chain_of}
 use Rattle.readers.specs.Readers.{row_reads}
 use Rattle.explaining.specs.Call.{explain}
 use Rattle.explaining.specs.Shown.{pair_in}
-use Rattle.explaining.specs.declared.Led.{Led}
 use Rattle.explaining.specs.declared.Why.TheVariants.{Cell}
 use Rattle.runs.specs.World.{Screen, Attribute, Picture, World, StoreWithPicture, after, answer}
 use Rattle.runs.specs.Kept.{PictureKept}
@@ -23,12 +22,12 @@ store_at place byte = after (StoreWithPicture (0xEE000 + place) byte)
 pub record Asked (w : World) (row column place byte : ℕ) : Type 0 where
   pub kept : PictureKept w
   pub kind : ℕ
-  pub led : Led
-  pub named : explain w.machine (w.bytes Screen) (w.bytes Attribute) row column ≡ Cell place kind led
+  pub led : Option ℕ
+  pub named : explain w.machine (w.bytes Screen) (w.bytes Attribute) row column ≡ Ok (Cell place kind led)
   pub unread :
       (earlier : ℕ) → earlier < row
       → let c = chain_of w.machine (w.bytes Screen) (w.bytes Attribute) in
-      row_reads c (InScreen place) (row_at c earlier) ≡ false
+      row_reads c (Some (InScreen place)) (row_at c earlier) ≡ false
   pub not_ff : byte ≡ 0xFF → ⊥
   pub differs : byte ≡ get_or (w.bytes Screen) place 0 → ⊥
   pub accepts : (answer (StoreWithPicture (0xEE000 + place) byte) w).refusal ≡ accepted

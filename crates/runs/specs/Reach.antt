@@ -1,10 +1,10 @@
 -- What each call is lent, sees and may change: one row a call.
-use Rattle.std.specs.Prelude.{ℕ, ◌+◌, ◌≡◌, List, [], ◌∷◌, Bool, true, false, cond, ◌||◌, length, take, drop, eqb, ltb}
+use Rattle.std.specs.Prelude.{ℕ, ◌+◌, ◌≡◌, List, [], ◌∷◌, Bool, true, false, cond, ◌||◌, length, take, drop, eqb, ltb, Option, Some, None}
 use Rattle.machine.specs.Settings.{z80_runs}
 use Rattle.memories.specs.View8088.{seen_8088}
 use Rattle.memories.specs.ViewZ80.{shared_from}
 use Rattle.memories.specs.declared.view8088.Seen.{Seen}
-use Rattle.memories.specs.declared.view8088.Seen.TheVariants.{Shared as InShared, Screen as InScreen, Attribute as InAttribute, Nowhere}
+use Rattle.memories.specs.declared.view8088.Seen.TheVariants.{Shared as InShared, Screen as InScreen, Attribute as InAttribute}
 use Rattle.runs.specs.World.{Memory, Shared, Private, Screen, Attribute, Glyphs, Nvm, Shadow, Picture, Line, ScreenList, Index, number_of, is_memory, World, Call, Read8088, Store8088, ReadZ80, StoreZ80, ReadShadow, WriteShadow, WritePort, VerticalTick, WatchdogTick, Draw, StoreWithPicture, IndexReaders, StoreWithIndex, DrawForViewers, StoreForViewers, StoreWithIndexForViewers, Ask, GlyphPart, DrawLine, ListLines, Explain, after, answer}
 
 -- a part of the world: the machine, the bit of it by which the Z80 runs, whether the 8088 is in reset, shared memory
@@ -46,11 +46,11 @@ Same TheViewers w v = w.viewers ≡ v.viewers
 Same (AllOf memory) w v = w.bytes memory ≡ v.bytes memory
 
 -- what a store of the 8088 may change, by what it sees at the address
-abbrev pub stored_at : Seen → List Part
-stored_at (InShared place) = AllOf Shared ∷ cond (ltb place shared_from) Below0800 From0800 ∷ []
-stored_at (InScreen place) = AllOf Screen ∷ []
-stored_at (InAttribute place) = AllOf Attribute ∷ []
-stored_at Nowhere = []
+abbrev pub stored_at : Option Seen → List Part
+stored_at (Some (InShared place)) = AllOf Shared ∷ cond (ltb place shared_from) Below0800 From0800 ∷ []
+stored_at (Some (InScreen place)) = AllOf Screen ∷ []
+stored_at (Some (InAttribute place)) = AllOf Attribute ∷ []
+stored_at None = []
 
 -- the memories that a call is lent; the parts by whose bytes, beside the lengths lent, it goes; and those that it may
 -- change

@@ -31,6 +31,11 @@ cells_are true false = record { fill = refl; few = omega arith; fits = omega ari
 cells_are false true = record { fill = refl; few = omega arith; fits = omega arith; all = refl }
 cells_are false false = record { fill = refl; few = omega arith; fits = omega arith; all = refl }
 
+pub cells_fit :
+    (columns132 is_wide : Bool) {cells width : ℕ} → cells ≡ cells_of columns132 is_wide → width ≡ width_of columns132 is_wide
+    → cells * width ≤ line_bytes
+cells_fit columns132 is_wide e f = rw (e, f) (cells_are columns132 is_wide).fits
+
 -- of a row of a kind
 pub cells_fill_the_line :
     (m : Machine) (kind : ℕ) → capacity (columns m) kind * cell_width m.columns132 kind ≡ dots_of_line m

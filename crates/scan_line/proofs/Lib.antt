@@ -1,4 +1,3 @@
 pub mod Laws
-pub mod Row
-pub mod Clearing
+pub mod Cells
 pub mod Line

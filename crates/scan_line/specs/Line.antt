@@ -1,5 +1,5 @@
 -- Document 01, "Dots": the dots of a scan line of a row.
-use Rattle.std.specs.Prelude.{ℕ, ◌+◌, ◌-◌, ◌*◌, ◌%◌, ◌≡◌, List, ◌++◌, Bool, cond, ◌||◌, length, get_or, replicate, eqb}
+use Rattle.std.specs.Prelude.{ℕ, ◌+◌, ◌-◌, ◌*◌, ◌%◌, ◌≡◌, List, ◌++◌, Bool, if◌then◌else◌, ◌||◌, length, get_or, replicate, ◌==◌}
 use Rattle.lent.specs.Lengths.{line_bytes}
 use Rattle.machine.specs.Settings.{columns, blanked, graphics}
 use Rattle.machine.specs.declared.Machine.{Machine}
@@ -36,17 +36,17 @@ row_dots m table bytes scan = in_order (pair_dots m table bytes scan) (capacity 
 
 -- "A line has 800 or 1,188 dots; bytes after 800 become 0."
 abbrev pub dots_of_line : Machine → ℕ
-dots_of_line m = cond m.columns132 1188 800
+dots_of_line m = if m.columns132 then 1188 else 800
 
 -- "The whole line is 0 if the display is blanked, the graphics board selected, or the record's count is 254."
 unfoldable pub shows_nothing : Machine → (count : ℕ) → Bool
-shows_nothing m count = blanked m || (graphics m || eqb count dark_count)
+shows_nothing m count = (blanked m || graphics m) || count == dark_count
 
 unfoldable pub line_of : Machine → (table bytes : List ℕ) → (scan : ℕ) → List ℕ
 line_of m table bytes scan =
-    cond (shows_nothing m (count_in bytes))
-    (replicate line_bytes 0)
-    (row_dots m table bytes scan ++ replicate (line_bytes - dots_of_line m) 0)
+    if shows_nothing m (count_in bytes)
+    then replicate line_bytes 0
+    else row_dots m table bytes scan ++ replicate (line_bytes - dots_of_line m) 0
 
 -- "A line has 800 or 1,188 dots", and its buffer has 1,188 bytes
 abbrev pub LineSized : Type 0

@@ -1,1 +1,3 @@
 pub mod Laws
+pub mod Lengths
+pub mod Told

@@ -6,14 +6,16 @@ mod cell;
 mod links;
 mod words;
 
-ghost use Rattle.std.specs.Prelude.{◌≤◌, ◌<◌, ◌≡◌, length, take};
-ghost use Rattle.lent.specs.Lengths.{screen_bytes, attribute_bytes};
-ghost use Rattle.chain.specs.Chain.{chain, rows};
-ghost use Rattle.records.specs.Record.{record_pairs};
-ghost use Rattle.ascii.specs.Inner.{Put};
+ghost use Rattle.std.specs.Prelude.{◌≤◌, ◌<◌, ◌≡◌, IfOk, length, take};
+ghost use Rattle.chain.specs.Chain.{rows};
+ghost use Rattle.chain.specs.Page.{chain_on};
+ghost use Rattle.ascii.specs.Text.{with_words};
 ghost use Rattle.sentences.specs.Sentences.{last_row, both_sentences, said, say, text_bytes};
 
-use explaining::Why;
+use ascii::Text;
+use chain::Page;
+use explaining::{Position, Why};
+use lent::Refusal;
 use machine::Machine;
 
 // The first sentence and a clause of the second with each number at its longest, five digits.
@@ -23,48 +25,32 @@ const CLAUSE_MOST: usize = 59;
 
 pub const TEXT_BYTES: usize = SENTENCE_MOST + chain::ROWS * CLAUSE_MOST;
 
-// What saying answers: by what the explanation is refused, and how many bytes of text there are.
-#[derive(Clone, Copy)]
-pub struct Said {
-    pub refusal: u8,
-    pub bytes: usize,
-}
+type Sentences = Text<TEXT_BYTES>;
 
 // The last row that the second sentence names.
-fn last_row(row: u16, why: Why) -> usize
+fn last_row(row: usize, why: Why) -> usize
     ensures { result ≡ last_row row why }
 {
-    let told = explaining::tell(why);
-    if told.answer == explaining::DARK {
-        return told.tore as usize;
+    match why {
+        Why::Dark(tore) => usize::from(tore),
+        _ => row,
     }
-    row as usize
 }
 
 // Puts both sentences.
-fn put_both(
-    columns: usize,
-    screen: &[u8],
-    attribute: &[u8],
-    row: u16,
-    column: u16,
-    why: Why,
-    text: &mut [u8],
-) -> usize
-    requires screen_len { length screen.now ≡ screen_bytes }
-    requires attribute_len { length attribute.now ≡ attribute_bytes }
-    requires le_columns { ((2 ≤ columns) × (columns ≤ record_pairs)) × ((row < rows) × (last_row row why < rows)) }
-    requires text_bytes_in_bounds { text_bytes ≤ length text.old }
-    ensures put { Put text.old 0
-        (both_sentences (chain columns screen.now attribute.now) row column why)
-        text.new result }
-    ensures upper_bound { result ≤ text_bytes }
+#[tactic(auto, using(ascii::proofs::Laws::with_both))]
+fn put_both(text: &mut Sentences, page: &Page, at: &Position, why: Why)
+    requires { last_row at.now.row why < rows }
+    ensures { text.new
+        ≡ with_words text_bytes text.old
+        (both_sentences (chain_on page.now) at.now.row at.now.column why) }
 {
-    let at = cell::put_sentence(columns, screen, attribute, row, column, why, text);
-    links::put_chain(columns, screen, attribute, last_row(row, why), text, at)
+    cell::put_sentence(text, page, at, why);
+    links::put_chain(text, page, last_row(at.row, why));
 }
 
-// Says why a cell shows what it shows.
+#[tactic(auto, using(crate::proofs::Laws::last_on_screen, crate::proofs::Lengths::both_fit, ascii::proofs::Laws::with_all), unfolding(crate::specs::Sentences::say, crate::specs::Sentences::text_of, explaining::specs::Call::on_screen))]
+// Says why a cell shows what it shows, and answers how many bytes of text there are.
 pub fn say(
     machine: Machine,
     screen: &[u8],
@@ -72,26 +58,18 @@ pub fn say(
     row: usize,
     column: usize,
     text: &mut [u8; TEXT_BYTES],
-) -> Said
+) -> Result<usize, Refusal>
     ensures text_after { said result text.new
         ≡ say machine screen.now attribute.now row column text.old }
-    ensures bytes_in_bounds { (result.bytes ≤ length text.new)
-        × (result.bytes ≡ length (take result.bytes text.new)) }
+    ensures bytes_in_bounds { IfOk result (λ bytes. (bytes ≤ length text.new)
+        × (bytes ≡ length (take bytes text.new))) }
 {
-    let why = explaining::explain(machine, screen, attribute, row, column);
-    let refusal = explaining::tell(why).refusal;
-    if refusal != lent::ACCEPTED {
-        return Said { refusal, bytes: 0 };
-    }
-    let columns = machine.columns();
-    let bytes = put_both(
-        columns,
-        screen,
-        attribute,
-        row as u16,
-        column as u16,
-        why,
-        text,
-    );
-    Said { refusal, bytes }
+    let screen = lent::lend(screen)?;
+    let attribute = lent::lend(attribute)?;
+    let at = Position::new(row, column)?;
+    let page = picture::page_of(machine, screen, attribute);
+    let why = explaining::explain_at(&page, &at);
+    let mut sentences = Text::new();
+    put_both(&mut sentences, &page, &at, why);
+    Ok(sentences.copy_to(text))
 }

@@ -1,6 +1,7 @@
 -- Document 02, ticket 7: the marks that wait for each viewer, and what a viewer is told.
-use Rattle.std.specs.Prelude.{ℕ, [], ◌∷◌, map, not, cond, get_or, set, replicate, ltb}
-use Rattle.lent.specs.Refusals.{accepted, refuses, viewer_refused, refusal_of}
+use Rattle.std.specs.Prelude.{ℕ, [], ◌∷◌, map, not, if◌then◌else◌, get_or, set, replicate, nat_lt, Result, Ok, Err}
+use Rattle.lent.specs.Refusals.{accepted, refuses, viewer_refused, number_of, refusal_of}
+use Rattle.lent.specs.declared.refusals.Refusal.{Refusal}
 use Rattle.chain.specs.Chain.{rows}
 use Rattle.marks.specs.Marks.{all_marked, joined}
 use Rattle.viewers.specs.declared.Asked.{Asked}
@@ -20,11 +21,16 @@ added v marks = record { waiting = map (λ (waits : ℕ). joined waits marks) v.
 
 -- "Refusals: 10, a viewer over 7"
 abbrev pub refusal_ask : (viewer : ℕ) → ℕ
-refusal_ask viewer = refusal_of ((viewer_refused, not (ltb viewer viewers)) ∷ [])
+refusal_ask viewer = refusal_of ((viewer_refused, not (nat_lt viewer viewers)) ∷ [])
 
 -- a refusal has no marks, and changes nothing
 abbrev pub refuse_ask : (refusal : ℕ) → Viewers → Asked
 refuse_ask refusal v = record { refusal = refusal; marks = 0; viewers = v }
+
+-- the numbers of what an ask answers: the marks and the viewers then, or a refusal
+abbrev pub ask_answered : Viewers → Result (ℕ × Viewers) Refusal → Asked
+ask_answered v (Ok told) = record { refusal = accepted; marks = told.0; viewers = told.1 }
+ask_answered v (Err refusal) = refuse_ask (number_of refusal) v
 
 -- "a viewer who asks is handed its own and is cleared"
 abbrev pub hand_over : Viewers → (viewer : ℕ) → Asked
@@ -38,4 +44,4 @@ hand_over v viewer =
 abbrev pub ask : Viewers → (viewer : ℕ) → Asked
 ask v viewer =
     let refusal = refusal_ask viewer in
-    cond (refuses refusal) (refuse_ask refusal v) (hand_over v viewer)
+    if refuses refusal then refuse_ask refusal v else hand_over v viewer

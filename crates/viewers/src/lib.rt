@@ -3,13 +3,16 @@
 #![tactic(auto)]
 
 ghost use Rattle.std.specs.Prelude.{◌≡◌};
-ghost use Rattle.viewers.specs.Viewers.{start, added, ask};
-ghost use Rattle.viewers.specs.Serving.{drawn_serving, draw_for_viewers, stored_serving, store_for_viewers};
-ghost use Rattle.viewers.specs.Serving.{served, stored_serving_index, store_with_index_for_viewers};
+ghost use Rattle.viewers.specs.Viewers.{start, added, ask, ask_answered};
+ghost use Rattle.viewers.specs.Serving.{drawing_served, drawn_serving, draw_for_viewers};
+ghost use Rattle.mending.specs.Store.{store_answered};
+ghost use Rattle.viewers.specs.Serving.{served, store_served, stored_serving, store_for_viewers};
+ghost use Rattle.viewers.specs.Serving.{stored_serving_index, store_with_index_for_viewers};
 
+use lent::Refusal;
 use machine::Machine;
 use mending::Stored;
-use picture::Drawn;
+use picture::{Drawing, Drawn};
 
 pub const VIEWERS: usize = 8;
 
@@ -19,34 +22,91 @@ const ALL_ROWS: u32 = 0x01FFFFFF;
 // The marks that wait for each viewer. A caller keeps them, hands them to each call that serves viewers, and keeps what
 // comes back.
 #[repr(C)]
-#[derive(Clone, Copy)]
+#[derive(Clone, Copy, Debug, PartialEq, Eq)]
 pub struct Viewers {
     pub waiting: [u32; VIEWERS],
 }
 
-// What a viewer is told: the marks that waited for it. Refused, there are none, and the viewers are as they were.
+// What C is told of an ask: the marks that waited for the viewer. Refused, there are none, and the viewers are as they
+// were.
 #[repr(C)]
-#[derive(Clone, Copy)]
+#[derive(Clone, Copy, Debug, PartialEq, Eq)]
 pub struct Asked {
     pub refusal: u8,
     pub marks: u32,
     pub viewers: Viewers,
 }
 
-// The answer of a drawing that serves viewers.
+// What C is told of a drawing that serves viewers.
 #[repr(C)]
-#[derive(Clone, Copy)]
+#[derive(Clone, Copy, Debug, PartialEq, Eq)]
 pub struct DrawnForViewers {
     pub drawn: Drawn,
     pub viewers: Viewers,
 }
 
-// The answer of a store that serves viewers.
+// What C is told of a store that serves viewers.
 #[repr(C)]
-#[derive(Clone, Copy)]
+#[derive(Clone, Copy, Debug, PartialEq, Eq)]
 pub struct StoredForViewers {
     pub stored: Stored,
     pub viewers: Viewers,
+}
+
+impl Asked {
+    // What an ask of viewers answers, as numbers.
+    pub fn told(before: Viewers, outcome: Result<(u32, Viewers), Refusal>) -> Asked
+        ensures { result ≡ ask_answered before outcome }
+    {
+        match outcome {
+            Ok((marks, viewers)) => Asked {
+                refusal: lent::ACCEPTED,
+                marks,
+                viewers,
+            },
+            Err(refusal) => Asked {
+                refusal: refusal.number(),
+                marks: 0,
+                viewers: before,
+            },
+        }
+    }
+}
+
+impl DrawnForViewers {
+    // What a drawing that serves viewers answers, as numbers.
+    pub fn told(kept: Viewers, outcome: Result<(Drawing, Viewers), Refusal>) -> DrawnForViewers
+        ensures { result ≡ drawing_served kept outcome }
+    {
+        match outcome {
+            Ok((drawing, viewers)) => DrawnForViewers {
+                drawn: Drawn::from(Ok(drawing)),
+                viewers,
+            },
+            Err(refusal) => DrawnForViewers {
+                drawn: Drawn::from(Err(refusal)),
+                viewers: kept,
+            },
+        }
+    }
+}
+
+impl StoredForViewers {
+    // What a store that serves viewers answers, as numbers.
+    pub fn told(before: Viewers, outcome: Result<(u32, Viewers), Refusal>) -> StoredForViewers
+        ensures { result ≡ store_served before outcome }
+    {
+        match outcome {
+            Ok((marks, viewers)) => StoredForViewers {
+                stored: Stored::from(Ok(marks)),
+                viewers,
+            },
+            Err(refusal) => StoredForViewers {
+                stored: Stored::from(Err(refusal)),
+                viewers: before,
+            },
+        }
+    }
 }
 
 impl Viewers {
@@ -64,44 +124,33 @@ impl Viewers {
         ensures { result ≡ added self marks }
     {
         let mut waiting = self.waiting;
-        let mut viewer = 0;
-        while viewer < VIEWERS {
+        for viewer in 0..VIEWERS {
             waiting[viewer] = marks::join(waiting[viewer], marks);
-            viewer += 1;
         }
         Viewers { waiting }
     }
 
-    // The answer of a store that serves viewers: its own, and its marks added to those of every viewer. A store that is
-    // refused has no marks to add.
-    fn serve(self, stored: Stored) -> StoredForViewers
-        ensures { result ≡ served self stored }
+    // What a store that serves viewers answers: its own marks, and the viewers with the marks added to those of each. One
+    // that is refused has none to add.
+    #[tactic(auto, using(crate::proofs::Laws::none_added))]
+    fn serve(self, stored: Result<u32, Refusal>) -> Result<(u32, Viewers), Refusal>
+        ensures { store_served self result ≡ served self (store_answered stored) }
     {
-        StoredForViewers {
-            stored,
-            viewers: self.add(stored.marks),
-        }
+        let marks = stored?;
+        Ok((marks, self.add(marks)))
     }
 
     // Hands a viewer the marks that wait for it, and clears them.
-    pub fn ask(self, viewer: usize) -> Asked
-        ensures { result ≡ ask self viewer }
+    pub fn ask(self, viewer: usize) -> Result<(u32, Viewers), Refusal>
+        ensures { ask_answered self result ≡ ask self viewer }
     {
         if viewer >= VIEWERS {
-            return Asked {
-                refusal: lent::VIEWER,
-                marks: 0,
-                viewers: self,
-            };
+            return Err(Refusal::Viewer);
         }
         let mut waiting = self.waiting;
         let marks = waiting[viewer];
         waiting[viewer] = 0;
-        Asked {
-            refusal: lent::ACCEPTED,
-            marks,
-            viewers: Viewers { waiting },
-        }
+        Ok((marks, Viewers { waiting }))
     }
 }
 
@@ -112,18 +161,14 @@ pub fn draw_for_viewers(
     screen: &[u8],
     attribute: &[u8],
     picture: &mut [u8],
-) -> DrawnForViewers
-    ensures { drawn_serving result picture.new
+) -> Result<(Drawing, Viewers), Refusal>
+    ensures { drawn_serving (drawing_served viewers result) picture.new
         ≡ draw_for_viewers machine viewers screen.now attribute.now picture.old }
 {
-    let drawn = picture::draw(machine, screen, attribute, picture);
-    if drawn.refusal != lent::ACCEPTED {
-        return DrawnForViewers { drawn, viewers };
-    }
-    DrawnForViewers {
-        drawn,
-        viewers: Viewers::start(),
-    }
+    let drawing = picture::draw(machine, screen, attribute, picture)?;
+    // Whatever waited before, all rows wait for all then.
+    let _ = viewers;
+    Ok((drawing, Viewers::start()))
 }
 
 // Stores a byte as the 8088 does, mends the picture, and adds the marks to those of every viewer.
@@ -136,8 +181,8 @@ pub fn store_for_viewers(
     picture: &mut [u8],
     address: u32,
     byte: u8,
-) -> StoredForViewers
-    ensures { stored_serving result
+) -> Result<(u32, Viewers), Refusal>
+    ensures { stored_serving (store_served viewers result)
         shared.new screen.new attribute.new picture.new
         ≡ store_for_viewers machine viewers
         shared.old screen.old attribute.old picture.old address byte }
@@ -148,8 +193,7 @@ pub fn store_for_viewers(
     viewers.serve(stored)
 }
 
-// The same store with an index lent. Its steps are those of `index::store_with_index`, so that here too little is done
-// for a byte that no row reads.
+// The same store with an index lent.
 pub fn store_with_index_for_viewers(
     machine: Machine,
     viewers: Viewers,
@@ -160,32 +204,15 @@ pub fn store_with_index_for_viewers(
     index: &mut [u8],
     address: u32,
     byte: u8,
-) -> StoredForViewers
-    ensures { stored_serving_index result
+) -> Result<(u32, Viewers), Refusal>
+    ensures { stored_serving_index (store_served viewers result)
         shared.new screen.new attribute.new picture.new index.new
         ≡ store_with_index_for_viewers machine viewers
         shared.old screen.old attribute.old picture.old index.old
         address byte }
 {
-    let named = index::store_named(
+    let outcome = index::store_with_index(
         machine, shared, screen, attribute, picture, index, address, byte,
     );
-    if named.first >= chain::ROWS {
-        return viewers.serve(Stored {
-            refusal: named.refusal,
-            marks: 0,
-        });
-    }
-    let marks = index::mend_both(
-        machine.columns(),
-        screen,
-        attribute,
-        named.first,
-        picture,
-        index,
-    );
-    viewers.serve(Stored {
-        refusal: lent::ACCEPTED,
-        marks,
-    })
+    viewers.serve(outcome)
 }

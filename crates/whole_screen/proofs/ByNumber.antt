@@ -15,7 +15,7 @@ use Rattle.whole_screen.specs.Screen.{lines_of, run_start, run_end, at_rest, scr
 use Rattle.whole_screen.specs.Call.{latch_most}
 use Rattle.whole_screen.specs.Inner.{numbered, lines_from, number_at, shown_at, by_number}
 use Rattle.whole_screen.proofs.Numbers.{pieces_split, of_a_row, in_full_lem}
-use Rattle.whole_screen.proofs.Run.{first_run, moving, Found}
+use Rattle.whole_screen.proofs.FirstRun.{first_run, moving, Found}
 
 module _ (first end latch : ℕ) (some : first < end) (small : latch ≤ latch_most) where
   -- a line ahead of the run, of the run, and after it

@@ -2,12 +2,11 @@
 use Prim.Native.Nat.{ℕ, zero, suc, ◌+◌, ◌-◌, ◌≤◌, ◌<◌}
 use mathlib.Core.Path.{◌≡◌, refl, sym, ap, subst}
 use mathlib.Core.Bool.{not}
+use Rattle.std.proofs.Common.{Option, Some, None}
 use native.Mathlib.Nat.{mod-eq_of_lt, mod-lt}
 use native.Mathlib.Omega.{arith}
 use Rattle.chain.specs.Chain.{Chain, Row, Whole, Torn, Dark, byte_at, first, link, rows, terminator, ended, row_from, next, row_at}
 use Rattle.chain.specs.declared.Head.{Head}
-use Rattle.chain.specs.declared.Terminator.{Terminator}
-use Rattle.chain.specs.declared.Terminator.TheVariants.{After, Missing}
 use Rattle.chain.proofs.First.{same_first}
 use Rattle.records.specs.Record.{record_pairs, head_of, record_of}
 use Rattle.picture.specs.Picture.{in_order, record_at, picture_of}
@@ -16,7 +15,7 @@ use Rattle.picture.proofs.Sizes.{records_sized}
 use Rattle.whole_screen.specs.Screen.{scrolls, run_start, run_end, at_rest, scrolled, screen_lines}
 use Rattle.whole_screen.specs.Call.{kinds_in}
 use Rattle.whole_screen.specs.Fresh.{kinds_of, OfTheChain, Row0Stands}
-use Rattle.whole_screen.proofs.Run.{start_among}
+use Rattle.whole_screen.proofs.FirstRun.{start_among}
 
 -- the list goes by the kinds of the rows alone
 module _ (f g : ℕ → ℕ) (same : (row : ℕ) → row < rows → f row ≡ g row) where
@@ -48,9 +47,9 @@ own_head : (c : Chain) (head : Head) → head_of (row_from c head) ≡ head
 unfolding row_from
 own_head c head = go (terminator c head)
   where
-    go : (t : Terminator) → head_of (ended head t) ≡ head
-    go (After cells) = refl
-    go Missing = refl
+    go : (cells : Option ℕ) → head_of (ended head cells) ≡ head
+    go (Some cells) = refl
+    go None = refl
 
 next_kind : (c : Chain) (row : Row) → (head_of (next c row)).kind < 8
 unfolding next link

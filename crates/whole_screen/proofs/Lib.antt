@@ -1,5 +1,5 @@
 pub mod Numbers
-pub mod Run
+pub mod FirstRun
 pub mod ByNumber
 pub mod Filling
 pub mod Seeking

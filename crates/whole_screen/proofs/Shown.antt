@@ -11,7 +11,7 @@ use Rattle.whole_screen.specs.Call.{latch_most}
 use Rattle.whole_screen.specs.Shown.{row_in, scan_in, Always240, EachIsALine, above, DownTheScreen, NoLineTwice, Stands, shows, StandsWhatShows, OthersInFull, OneRowShowsNone}
 use Rattle.whole_screen.specs.Inner.{number_at, shown_at}
 use Rattle.whole_screen.proofs.Numbers.{entries_length, entry_at}
-use Rattle.whole_screen.proofs.Run.{first_run, moving}
+use Rattle.whole_screen.proofs.FirstRun.{first_run, moving}
 use Rattle.whole_screen.proofs.ByNumber.{at_head, at_run, at_foot, by_number_lem}
 
 -- where a line of the screen stands, and the number that it shows: ahead of the run, in it, under it

@@ -11,7 +11,7 @@ use Rattle.whole_screen.specs.Call.{latch_most}
 use Rattle.whole_screen.specs.Shown.{row_in, in_run, Stands}
 use Rattle.whole_screen.specs.Smooth.{SameLine, MovesUp, Smooth, SmoothFromRest}
 use Rattle.whole_screen.specs.Inner.{shown_at}
-use Rattle.whole_screen.proofs.Run.{first_run, moving, rest_without_run, rest_at_0, moves_with_run, ends_after}
+use Rattle.whole_screen.proofs.FirstRun.{first_run, moving, rest_without_run, rest_at_0, moves_with_run, ends_after}
 use Rattle.whole_screen.proofs.Shown.{Place, Head, Run, Foot, rests, place, row_number, scan_number, next_hidden, rest_hidden}
 
 -- a row of the run is between its ends

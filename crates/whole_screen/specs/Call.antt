@@ -1,5 +1,5 @@
 -- Document 02, ticket 5: the call that lists the lines of the whole screen.
-use Rattle.std.specs.Prelude.{ℕ, List, [], ◌∷◌, Bool, not, cond, ◌&&◌, length, eqb, ltb}
+use Rattle.std.specs.Prelude.{ℕ, List, [], ◌∷◌, Bool, not, ◌&&◌, length, if◌then◌else◌, ◌==◌, nat_lt}
 use Rattle.lent.specs.Lengths.{picture_bytes, list_bytes}
 use Rattle.lent.specs.Refusals.{accepted, refuses, length_refused, latch_refused, refusal_of}
 use Rattle.machine.specs.Settings.{scroll_latch}
@@ -10,7 +10,7 @@ use Rattle.whole_screen.specs.Screen.{screen_lines}
 
 -- "1: a lent buffer's length differs from the list"
 unfoldable pub lengths_list : (picture list : ℕ) → Bool
-lengths_list picture list = eqb picture picture_bytes && eqb list list_bytes
+lengths_list picture list = picture == picture_bytes && list == list_bytes
 
 -- the kinds of a picture's rows, as a scan line takes them from a record: modulo 8
 unfoldable pub kinds_in : (picture : List ℕ) → (row : ℕ) → ℕ
@@ -33,11 +33,12 @@ abbrev pub refusal_list : Machine → (picture list : List ℕ) → ℕ
 refusal_list m picture list =
     refusal_of
     ((length_refused, not (lengths_list (length picture) (length list)))
-    ∷ (latch_refused, ltb latch_most (scroll_latch m))
+    ∷ (latch_refused, nat_lt latch_most (scroll_latch m))
     ∷ [])
 
 abbrev pub list_lines : Machine → (picture list : List ℕ) → Listed
 list_lines m picture list =
     let refusal = refusal_list m picture list in
-    cond (refuses refusal) (listed refusal list)
-    (listed accepted (screen_lines (kinds_in picture) (scroll_latch m)))
+    if refuses refusal
+    then listed refusal list
+    else listed accepted (screen_lines (kinds_in picture) (scroll_latch m))

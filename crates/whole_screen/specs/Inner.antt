@@ -1,10 +1,11 @@
 -- No sentence of a document: what our own functions promise each other. All rows in full have ten lines each, which are
 -- numbered from the top, and the list is told by these numbers.
-use Rattle.std.specs.Prelude.{ℕ, ◌+◌, ◌-◌, ◌*◌, ◌/◌, ◌%◌, ◌≡◌, List, [], ◌∷◌, Bool, not, cond, ltb}
+use Rattle.std.specs.Prelude.{ℕ, ◌+◌, ◌-◌, ◌*◌, ◌/◌, ◌%◌, ◌≡◌, List, [], ◌∷◌, Option, Some, None, if◌then◌else◌, ◌==◌, nat_lt}
 use Rattle.chain.specs.Chain.{rows}
 use Rattle.picture.specs.Picture.{in_order}
 use Rattle.glyphs.specs.Scans.{first_scan, last_scan}
-use Rattle.whole_screen.specs.Screen.{lines, scrolls, run_start, run_end, at_rest}
+use Rattle.whole_screen.specs.declared.Run.{Run}
+use Rattle.whole_screen.specs.Screen.{lines, run_start, run_end, at_rest}
 
 abbrev pub lines_of_rows : ℕ
 lines_of_rows = rows * last_scan
@@ -21,20 +22,23 @@ lines_from number = in_order (λ more. numbered (number + more))
 unfoldable pub Listed : List ℕ → Type 0
 Listed all = all ≡ lines_from 0 lines_of_rows
 
--- the test of a row that is asked to scroll, or not to
-abbrev pub asked : (still : Bool) → (kinds : ℕ → ℕ) → (row : ℕ) → Bool
-asked still kinds row = cond still (not (scrolls (kinds row))) (scrolls (kinds row))
+-- the run, where there is one
+unfoldable pub run_of : (kinds : ℕ → ℕ) → Option Run
+run_of kinds =
+    if run_start kinds == rows then None else Some (record { first = run_start kinds; end = run_end kinds })
 
 -- the number of the line that stands at `line` of the screen, where the run is from the row `first` on and ahead of the
 -- row `end`
 unfoldable pub number_at : (first end latch line : ℕ) → ℕ
 number_at first end latch line =
-    cond (ltb line (first * last_scan)) line
-    (cond (ltb line (end * last_scan - last_scan)) (line + latch) (line + last_scan))
+    if nat_lt line (first * last_scan)
+    then line
+    else if nat_lt line (end * last_scan - last_scan) then line + latch else line + last_scan
 
 -- and whether a run scrolls or not
 unfoldable pub shown_at : (kinds : ℕ → ℕ) → (latch line : ℕ) → ℕ
-shown_at kinds latch line = cond (at_rest kinds latch) line (number_at (run_start kinds) (run_end kinds) latch line)
+shown_at kinds latch line =
+    if at_rest kinds latch then line else number_at (run_start kinds) (run_end kinds) latch line
 
 abbrev pub by_number : (ℕ → ℕ) → List ℕ
 by_number number = in_order (λ line. numbered (number line)) lines

@@ -1,5 +1,5 @@
 -- Document 02, ticket 5: the lines of a whole screen.
-use Rattle.std.specs.Prelude.{ℕ, ◌+◌, ◌-◌, List, [], ◌∷◌, Bool, not, cond, ◌||◌, eqb}
+use Rattle.std.specs.Prelude.{ℕ, ◌+◌, ◌-◌, List, [], ◌∷◌, Bool, not, ◌||◌, if◌then◌else◌, ◌==◌}
 use Rattle.machine.specs.Settings.{bit}
 use Rattle.chain.specs.Chain.{rows, rows_at_rest}
 use Rattle.chain.specs.First.{first_that}
@@ -17,7 +17,7 @@ lines_of row scan = in_order (λ more. row ∷ (scan + more) ∷ [])
 -- "Let L be the scroll latch and take the first unbroken run of rows with the scrolling bit among the 25." 01: "bit 2
 -- scrolling"
 abbrev pub scrolls : (kind : ℕ) → Bool
-scrolls kind = eqb (bit 2 kind) 1
+scrolls kind = bit 2 kind == 1
 
 -- the run's first row, and the row after its last one; both are `rows` where there is no run
 unfoldable pub run_start : (kinds : ℕ → ℕ) → ℕ
@@ -28,7 +28,7 @@ run_end kinds = first_that (λ row. not (scrolls (kinds row))) (run_start kinds)
 
 -- "With no such run, or with L 0, rows 0 to 23 show in full."
 unfoldable pub at_rest : (kinds : ℕ → ℕ) → (latch : ℕ) → Bool
-at_rest kinds latch = eqb (run_start kinds) rows || eqb latch 0
+at_rest kinds latch = run_start kinds == rows || latch == 0
 
 abbrev pub in_full : (row : ℕ) → List ℕ
 in_full row = lines_of row first_scan last_scan
@@ -36,10 +36,10 @@ in_full row = lines_of row first_scan last_scan
 -- "Otherwise all 25 show, but the run's first row loses its top L scans and its last row its bottom 10 less L; a run of
 -- one row shows none."
 abbrev pub lost_at_top : (kinds : ℕ → ℕ) → (latch row : ℕ) → ℕ
-lost_at_top kinds latch row = cond (eqb row (run_start kinds)) latch 0
+lost_at_top kinds latch row = if row == run_start kinds then latch else 0
 
 abbrev pub lost_at_bottom : (kinds : ℕ → ℕ) → (latch row : ℕ) → ℕ
-lost_at_bottom kinds latch row = cond (eqb (row + 1) (run_end kinds)) (last_scan - latch) 0
+lost_at_bottom kinds latch row = if row + 1 == run_end kinds then last_scan - latch else 0
 
 abbrev pub scrolled : (kinds : ℕ → ℕ) → (latch row : ℕ) → List ℕ
 scrolled kinds latch row =
@@ -50,4 +50,4 @@ scrolled kinds latch row =
 -- of a screen whose rows are of these kinds, at a latch of 0 to 9
 unfoldable pub screen_lines : (kinds : ℕ → ℕ) → (latch : ℕ) → List ℕ
 screen_lines kinds latch =
-    cond (at_rest kinds latch) (in_order in_full rows_at_rest) (in_order (scrolled kinds latch) rows)
+    if at_rest kinds latch then in_order in_full rows_at_rest else in_order (scrolled kinds latch) rows

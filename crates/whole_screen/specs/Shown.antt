@@ -1,5 +1,5 @@
 -- Document 02, ticket 5: what is shown of the list, whatever the kinds, at every L from 0 to 9.
-use Rattle.std.specs.Prelude.{ℕ, ◌+◌, ◌*◌, ◌≤◌, ◌<◌, ◌≡◌, List, Bool, true, false, not, cond, ◌&&◌, ◌||◌, length, get_or, eqb, ltb, leb}
+use Rattle.std.specs.Prelude.{ℕ, ◌+◌, ◌*◌, ◌≤◌, ◌<◌, ◌≡◌, List, Bool, true, false, not, ◌&&◌, ◌||◌, length, get_or, if◌then◌else◌, ◌==◌, nat_lt, nat_le}
 use Rattle.lent.specs.Lengths.{list_bytes}
 use Rattle.chain.specs.Chain.{rows, rows_at_rest}
 use Rattle.glyphs.specs.Scans.{first_scan, last_scan}
@@ -15,7 +15,7 @@ scan_in list line = get_or list (2 * line + 1) 0
 
 -- whether a row is of the run
 abbrev pub in_run : (kinds : ℕ → ℕ) → (row : ℕ) → Bool
-in_run kinds row = leb (run_start kinds) row && ltb row (run_end kinds)
+in_run kinds row = nat_le (run_start kinds) row && nat_lt row (run_end kinds)
 
 -- "the first unbroken run of rows with the scrolling bit among the 25": no row ahead of it has the bit, each of its
 -- rows has, and the row after it has not; where there is none, no row has
@@ -43,7 +43,7 @@ EachIsALine =
 
 -- the lines go down the screen, by row and then by scan, and no line stands there twice
 abbrev pub above : (row scan other_row other_scan : ℕ) → Bool
-above row scan other_row other_scan = ltb row other_row || (eqb row other_row && ltb scan other_scan)
+above row scan other_row other_scan = nat_lt row other_row || (row == other_row && nat_lt scan other_scan)
 
 abbrev pub DownTheScreen : Type 0
 DownTheScreen =
@@ -69,8 +69,9 @@ pub record Stands (list : List ℕ) (row scan : ℕ) : Type 0 where
 -- over L
 abbrev pub shows : (kinds : ℕ → ℕ) → (latch row scan : ℕ) → Bool
 shows kinds latch row scan =
-    cond (at_rest kinds latch) (ltb row rows_at_rest)
-    (not (eqb row (run_start kinds) && leb scan latch) && not (eqb (row + 1) (run_end kinds) && ltb latch scan))
+    if at_rest kinds latch
+    then nat_lt row rows_at_rest
+    else not (row == run_start kinds && nat_le scan latch) && not (row + 1 == run_end kinds && nat_lt latch scan)
 
 abbrev pub StandsWhatShows : Type 0
 StandsWhatShows =

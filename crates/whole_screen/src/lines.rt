@@ -1,4 +1,5 @@
-// Every line that the rows have in full, from the top: ten of each row, and of each the row and the scan.
+// Every line that the rows have in full, from the top: ten of each row, and of each the row and the scan. A table that
+// the list is copied out of: worked out line by line, the list took longer.
 pub const LINES_OF_ROWS: usize = 250;
 
 #[rattlefmt::skip]

@@ -1,27 +1,40 @@
 -- What number a word is, by how long it is.
-use Prim.Native.Nat.{ℕ, ◌+◌, ◌*◌}
-use mathlib.Core.Path.{◌≡◌, refl}
-use mathlib.Core.List.{List, [], ◌∷◌}
-use mathlib.Core.Bool.{cond}
-use native.Mathlib.Omega.{arith}
-use lib.ListN.{length, get_or}
-use lib.Dec.{eqb}
-use borrow.Author.Tests.{ne_eqb}
-use Rattle.why.specs.Arguments.{no_number, digit, number}
+use Rattle.std.proofs.Common.{ℕ, ◌≤◌, ◌≡◌, List, [], ◌∷◌, length, get_or, refl, arith}
+use Rattle.std.specs.Prelude.{None}
+use Rattle.why.specs.Arguments.{digit, and_digit, number}
 
-pub by_length :
-    (word : List ℕ)
-    → number word ≡ cond (eqb (length word) 1) (digit (get_or word 0 0))
-    (cond (eqb (length word) 2) (digit (get_or word 0 0) * 10 + digit (get_or word 1 0))
-    (cond (eqb (length word) 3) (digit (get_or word 0 0) * 100 + digit (get_or word 1 0) * 10 + digit (get_or word 2 0)) no_number))
+pub of_one : (word : List ℕ) → length word ≡ 1 → number word ≡ digit (get_or word 0 0)
 unfolding number
-by_length [] = refl
-by_length (a ∷ []) = refl
-by_length (a ∷ b ∷ []) = refl
-by_length (a ∷ b ∷ c ∷ []) = refl
-by_length (a ∷ b ∷ c ∷ d ∷ word) =
-    rw (
-      ne_eqb (length (a ∷ b ∷ c ∷ d ∷ word)) 1 (λ e. omega (arith, e)),
-      ne_eqb (length (a ∷ b ∷ c ∷ d ∷ word)) 2 (λ e. omega (arith, e)),
-      ne_eqb (length (a ∷ b ∷ c ∷ d ∷ word)) 3 (λ e. omega (arith, e)),
-    )
+of_one (a ∷ []) long = refl
+of_one [] long = absurd (omega (arith, long))
+of_one (a ∷ b ∷ word) long = absurd (omega (arith, long))
+
+pub of_two : (word : List ℕ) → length word ≡ 2 → number word ≡ and_digit (digit (get_or word 0 0)) (digit (get_or word 1 0))
+unfolding number
+of_two (a ∷ b ∷ []) long = refl
+of_two [] long = absurd (omega (arith, long))
+of_two (a ∷ []) long = absurd (omega (arith, long))
+of_two (a ∷ b ∷ c ∷ word) long = absurd (omega (arith, long))
+
+pub of_three :
+    (word : List ℕ) → length word ≡ 3
+    → number word ≡ and_digit (and_digit (digit (get_or word 0 0)) (digit (get_or word 1 0))) (digit (get_or word 2 0))
+unfolding number
+of_three (a ∷ b ∷ c ∷ []) long = refl
+of_three [] long = absurd (omega (arith, long))
+of_three (a ∷ []) long = absurd (omega (arith, long))
+of_three (a ∷ b ∷ []) long = absurd (omega (arith, long))
+of_three (a ∷ b ∷ c ∷ d ∷ word) long = absurd (omega (arith, long))
+
+pub of_none : (word : List ℕ) → length word ≡ 0 → number word ≡ None
+unfolding number
+of_none [] long = refl
+of_none (a ∷ word) long = absurd (omega (arith, long))
+
+pub of_more : (word : List ℕ) → 4 ≤ length word → number word ≡ None
+unfolding number
+of_more (a ∷ b ∷ c ∷ d ∷ word) long = refl
+of_more [] long = absurd (omega (arith, long))
+of_more (a ∷ []) long = absurd (omega (arith, long))
+of_more (a ∷ b ∷ []) long = absurd (omega (arith, long))
+of_more (a ∷ b ∷ c ∷ []) long = absurd (omega (arith, long))

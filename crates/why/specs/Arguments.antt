@@ -1,23 +1,26 @@
 -- The program's arguments: the words of a row and of a column, and what they ask.
-use Rattle.std.specs.Prelude.{ℕ, ◌+◌, ◌-◌, ◌*◌, List, [], ◌∷◌, Bool, cond, ◌&&◌, leb}
+use Rattle.std.specs.Prelude.{ℕ, ◌+◌, ◌-◌, ◌*◌, List, [], ◌∷◌, Bool, Option, Some, None, cond, ◌&&◌, leb}
 use Rattle.why.specs.declared.arguments.Asked.{Asked}
-use Rattle.why.specs.declared.arguments.Asked.TheVariants.{Cell, Wrong}
 
--- a number has one to three decimal digits: so large is none, and no row and no column
-abbrev pub no_number : ℕ
-no_number = 1000
+-- the value of a decimal digit
+abbrev pub digit : (byte : ℕ) → Option ℕ
+digit byte = cond (leb 0x30 byte && leb byte 0x39) (Some (byte - 0x30)) None
 
--- the value of a digit; that of any other byte is too large
-unfoldable pub digit : (byte : ℕ) → ℕ
-digit byte = cond (leb 0x30 byte && leb byte 0x39) (byte - 0x30) no_number
+-- a number and its last digit
+abbrev pub and_digit : Option ℕ → Option ℕ → Option ℕ
+and_digit (Some number) (Some ones) = Some (number * 10 + ones)
+and_digit (Some number) None = None
+and_digit None ones = None
 
-unfoldable pub number : (word : List ℕ) → ℕ
-number [] = no_number
+-- a number has one to three decimal digits
+unfoldable pub number : (word : List ℕ) → Option ℕ
+number [] = None
 number (ones ∷ []) = digit ones
-number (tens ∷ ones ∷ []) = digit tens * 10 + digit ones
-number (hundreds ∷ tens ∷ ones ∷ []) = digit hundreds * 100 + digit tens * 10 + digit ones
-number (a ∷ b ∷ c ∷ d ∷ word) = no_number
+number (tens ∷ ones ∷ []) = and_digit (digit tens) (digit ones)
+number (hundreds ∷ tens ∷ ones ∷ []) = and_digit (and_digit (digit hundreds) (digit tens)) (digit ones)
+number (a ∷ b ∷ c ∷ d ∷ word) = None
 
 -- a row of 0 to 24 and a column of 0 to 131
-unfoldable pub cell : (row column : ℕ) → (columns132 : Bool) → Asked
-cell row column columns132 = cond (leb row 24 && leb column 131) (Cell row column columns132) Wrong
+unfoldable pub cell : (row column : ℕ) → (columns132 : Bool) → Option Asked
+cell row column columns132 =
+    cond (leb row 24 && leb column 131) (Some (record { row = row; column = column; columns132 = columns132 })) None

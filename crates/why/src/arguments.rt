@@ -1,83 +1,82 @@
 // What the arguments ask: a row, a column, and whether the screen has 132 columns.
-ghost use Rattle.std.specs.Prelude.{◌≤◌, ◌≡◌};
-ghost use Rattle.why.specs.Arguments.{no_number, digit, number, cell};
+ghost use Rattle.std.specs.Prelude.{◌<◌, ◌≡◌, IfSome};
+ghost use Rattle.why.specs.Arguments.{digit, number, cell};
 
 const LAST_ROW: usize = 24;
 
 const LAST_COLUMN: usize = 131;
-// More than three digits can say, so no row and no column: what stands for a word that is no number.
-const NO_NUMBER: usize = 1000;
 
 #[derive(Clone, Copy)]
-pub enum Asked {
-    Cell {
-        row: usize,
-        column: usize,
-        columns132: bool,
-    },
-    Wrong,
+pub struct Asked {
+    pub row: usize,
+    pub column: usize,
+    pub columns132: bool,
 }
 
 // The value of a digit.
-fn digit(byte: u8) -> usize
+fn digit(byte: u8) -> Option<usize>
     ensures value { result ≡ digit byte }
-    ensures upper_bound { result ≤ no_number }
+    ensures under_ten { IfSome result (λ value. value < 10) }
 {
-    if byte < b'0' {
-        return NO_NUMBER;
+    match byte {
+        b'0'..=b'9' => Some(usize::from(byte - b'0')),
+        _ => None,
     }
-    if byte > b'9' {
-        return NO_NUMBER;
-    }
-    (byte - b'0') as usize
 }
 
 // The number that a word of one to three digits is.
-fn number(word: &[u8]) -> usize
+#[tactic(auto, using(crate::proofs::Laws::of_one, crate::proofs::Laws::of_two, crate::proofs::Laws::of_three, crate::proofs::Laws::of_none, crate::proofs::Laws::of_more))]
+fn number(word: &[u8]) -> Option<usize>
     ensures { result ≡ number word.now }
 {
-    match word.len() {
-        1 => digit(word[0]),
-        2 => digit(word[0]) * 10 + digit(word[1]),
-        3 => digit(word[0]) * 100 + digit(word[1]) * 10 + digit(word[2]),
-        _ => NO_NUMBER,
+    match *word {
+        [ones] => digit(ones),
+        [tens, ones] => Some(digit(tens)? * 10 + digit(ones)?),
+        [hundreds, tens, ones] => Some(digit(hundreds)? * 100 + digit(tens)? * 10 + digit(ones)?),
+        _ => None,
     }
 }
 
 // What a row and a column ask.
-fn cell(row: usize, column: usize, columns132: bool) -> Asked
+#[tactic(auto, unfolding(crate::specs::Arguments::cell))]
+fn cell(row: usize, column: usize, columns132: bool) -> Option<Asked>
     ensures { result ≡ cell row column columns132 }
 {
-    if row > LAST_ROW {
-        return Asked::Wrong;
+    if row > LAST_ROW || column > LAST_COLUMN {
+        return None;
     }
-    if column > LAST_COLUMN {
-        return Asked::Wrong;
-    }
-    Asked::Cell {
+    Some(Asked {
         row,
         column,
         columns132,
-    }
+    })
+}
+
+// Room for a byte more than is wanted: a word that is longer still is answered as an empty one.
+type Word = [u8; 4];
+
+fn number_at(rt: &HostRuntime, i: usize) -> Option<usize> {
+    let mut word: Word = [0; 4];
+    let bytes = console::argument(rt, i, &mut word);
+    number(&word[..bytes])
+}
+
+fn is_132_at(rt: &HostRuntime, i: usize) -> bool {
+    let mut word: Word = [0; 4];
+    let bytes = console::argument(rt, i, &mut word);
+    &word[..bytes] == b"132".as_slice()
 }
 
 // What the program's arguments ask: two or three words after its own name.
-pub fn read(rt: &HostRuntime) -> Asked {
-    if !console::has_argument(rt, 2) | console::has_argument(rt, 4) {
-        return Asked::Wrong;
+pub fn read(rt: &HostRuntime) -> Option<Asked> {
+    if !console::has_argument(rt, 2) || console::has_argument(rt, 4) {
+        return None;
     }
-    // Room for a byte more than is wanted: a word that is longer still is answered as an empty one.
-    let mut word = [0u8; 4];
-    let n = console::argument(rt, 1, &mut word);
-    let row = number(&word[..n]);
-    let n = console::argument(rt, 2, &mut word);
-    let column = number(&word[..n]);
-    if !console::has_argument(rt, 3) {
-        return cell(row, column, false);
+    let row = number_at(rt, 1)?;
+    let column = number_at(rt, 2)?;
+    let columns132 = console::has_argument(rt, 3);
+    if columns132 && !is_132_at(rt, 3) {
+        return None;
     }
-    let n = console::argument(rt, 3, &mut word);
-    if !ascii::same(&word[..n], b"132") {
-        return Asked::Wrong;
-    }
-    cell(row, column, true)
+    cell(row, column, columns132)
 }

@@ -23,16 +23,17 @@ fn machine(columns132: bool) -> Machine
     }
     let mut shadow = [0; SHADOW_BYTES];
     let mut nvm = [0; NVM_BYTES];
-    ports::write_port(machine, &mut shadow, &mut nvm, 0x04, 0x10).machine
+    ports::write_port(machine, &mut shadow, &mut nvm, 0x04, 0x10).unwrap_or(machine)
 }
 
 fn main(rt: HostRuntime) -> io::Result<()> {
-    let asked = arguments::read(&rt);
-    let Asked::Cell {
-        row,
-        column,
-        columns132,
-    } = asked
+    let Some(
+        Asked {
+            row,
+            column,
+            columns132,
+        },
+    ) = arguments::read(&rt)
     else {
         return eprintln!(rt;
             "why: wants a row, 0 to 24, a column, 0 to 131, and 132 if the screen has 132 columns"
@@ -46,18 +47,19 @@ fn main(rt: HostRuntime) -> io::Result<()> {
     let read = console::read_full(&mut input, &mut screen);
     let beside = console::read_full(&mut input, &mut attribute);
     let more = console::read_full(&mut input, &mut beyond);
-    if (read < SCREEN_BYTES) | (beside < ATTRIBUTE_BYTES) | (more > 0) {
+    if read < SCREEN_BYTES || beside < ATTRIBUTE_BYTES || more > 0 {
         return eprintln!(rt; "why: standard input must be 8192 bytes: screen and attribute memory");
     }
     let mut text = [0; TEXT_BYTES];
-    let said = sentences::say(
+    // A row and a column that are asked for are never refused.
+    let bytes = sentences::say(
         machine(columns132),
         &screen,
         &attribute,
         row,
         column,
         &mut text,
-    );
-    let bytes = said.bytes;
+    )
+    .unwrap_or(0);
     rt.write_all(&text[..bytes])
 }

@@ -1,23 +1,26 @@
-use rainbow::{lent, machine::Machine, mending, picture, records};
+use rainbow::{lent, lent::Refusal, machine::Machine, mending, picture, records};
 
-fn main() {
+fn main() -> Result<(), Refusal> {
     let machine = Machine::power_up();
     let mut shared = [0; lent::SHARED_BYTES];
     let mut screen = [0; lent::SCREEN_BYTES];
     let mut attribute = [0; lent::ATTRIBUTE_BYTES];
     let mut picture = [0; lent::PICTURE_BYTES];
     screen[..8].copy_from_slice(b"BERTA\xFF\x00\x01"); // FF, then the next row's start
-    let drawn = picture::draw(machine, &screen, &attribute, &mut picture);
-    println!("row 0 is {}, {} bytes read", row_0(&picture), drawn.reads);
+    let drawing = picture::draw(machine, &screen, &attribute, &mut picture)?;
+    println!("row 0 is {}, {} bytes read", row_0(&picture), drawing.reads);
 
     let mut store = |address, byte| {
         let (screen, attribute) = (&mut screen, &mut attribute);
         mending::store_with_picture(machine, &mut shared, screen, attribute, &mut picture, address, byte)
     };
-    let stored = store(0xEE004, b'H'); // the picture is mended
+    let marks = store(0xEE004, b'H')?; // the picture is mended
     let refused = store(0xF0000, b'H');
-    println!("row 0 is {}, marks {:07X}", row_0(&picture), stored.marks);
-    println!("refused by {}", refused.refusal);
+    println!("row 0 is {}, marks {marks:07X}", row_0(&picture));
+    if let Err(refusal) = refused {
+        println!("refused by {}", refusal.number());
+    }
+    Ok(())
 }
 
 /// The characters of the first record.

@@ -258,42 +258,36 @@ mod tests {
         assert_eq!(understood(&line), Line::Call("tick", vec![]));
     }
 
-    /// The texts of a table in the program's code, and the names of the positions ahead of another name.
-    fn table_of(code: &str, table: &str, places: &str, after: &str) -> (Vec<String>, Vec<String>) {
+    /// A table in the program's code: the name of each variant as words, and the text beside it.
+    fn table_of(code: &str, table: &str) -> Vec<(String, String)> {
         let (_, rest) = code.split_once(&format!("const {table}:")).unwrap();
-        let texts = rest.split('"').nth(1).unwrap().split("\\\n");
-        let names = places
-            .lines()
-            .filter_map(|line| line.split_once("const ")?.1.split(':').next())
-            .take_while(|name| *name != after)
-            .map(|name| name.to_lowercase().replace('_', " "));
-        (
-            texts.map(|text| text.trim().to_string()).collect(),
-            names.collect(),
-        )
+        let (rows, _) = rest.split_once("\n];").unwrap();
+        let pair = |row: &str| {
+            let (variant, text) = row.split_once("::")?.1.split_once(", \"")?;
+            let mut words = String::new();
+            for letter in variant.chars() {
+                if letter.is_uppercase() && !words.is_empty() {
+                    words.push(' ');
+                }
+                words.extend(letter.to_lowercase());
+            }
+            Some((words, text.split('"').next()?.to_string()))
+        };
+        rows.lines().filter_map(pair).collect()
     }
 
     #[test]
-    fn the_program_has_each_form_and_name_at_the_position_of_its_words() {
+    fn the_program_has_each_form_and_name_beside_its_words() {
         let forms = include_str!("../../../crates/monitor/src/forms.rt");
-        let desk = include_str!("../../../crates/monitor/src/desk.rt");
         let words = |form: &str| {
             let plain = |word: &&str| !word.starts_with(|letter: char| letter.is_uppercase());
             let words: Vec<&str> = form.split(' ').take_while(plain).collect();
             words.join(" ")
         };
-        let (texts, places) = table_of(forms, "FORM_TEXTS", forms, "FORMS");
-        assert_eq!(texts, FORMS);
-        assert_eq!(places, FORMS.map(words));
-        let (texts, places) = table_of(forms, "NAMES", desk, "MEMORIES");
-        let names = NAMES.map(|(name, _)| name);
-        assert_eq!(
-            (texts, places),
-            (
-                names.map(str::to_string).to_vec(),
-                names.map(str::to_string).to_vec()
-            )
-        );
+        let wanted = FORMS.map(|form| (words(form), form.to_string()));
+        assert_eq!(table_of(forms, "FORMS"), wanted);
+        let wanted = NAMES.map(|(name, _)| (name.to_string(), name.to_string()));
+        assert_eq!(table_of(forms, "NAMES"), wanted);
     }
 
     #[test]

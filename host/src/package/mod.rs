@@ -15,12 +15,17 @@ use std::path::{Path, PathBuf};
 const CRATES: [&str; 5] = ["rainbow", "rows", "tube", "why", "monitor"];
 /// Those that have no call and no constant for a user.
 const INNER: [&str; 5] = ["dc011", "dc012", "diagnostic", "readers", "dots"];
+/// Those with a type that keeps what its model, which the prover alone reads, is of: no code reads it.
+const MODELLED: [&str; 1] = ["dots"];
 /// Those that are of use to the programs alone.
 const OF_PROGRAMS: [&str; 2] = ["ascii", "commands"];
 
 /// Functions that are made a part of the loops in other crates that call them. The kit's compiler does so by itself;
 /// rustc, whose tests of indexes make them larger, has to be told.
-const IN_LOOPS: [(&str, &[&str]); 1] = [("records", &["read_ahead", "draw_row", "draw_cells"])];
+const IN_LOOPS: [(&str, &[&str]); 2] = [
+    ("chain", &["first_terminator"]),
+    ("records", &["read_ahead", "draw_row", "draw_cells"]),
+];
 
 /// The crate with the names of C, and the file that C calls.
 const C_NAMES: &str = "rainbow";
@@ -32,6 +37,8 @@ const PROTOTYPES: &str = "prototypes.c";
 struct Made {
     /// The file of Rattle that it is made from, below the repository's root; the other files are written by hand.
     source: Option<String>,
+    /// The module that the crate becomes, of a library.
+    own: Option<String>,
     text: String,
 }
 
@@ -104,12 +111,14 @@ fn of_crate(root: &Path, one: &Crate) -> io::Result<Files> {
         } else {
             library_uses(one, &text)
         };
-        let mut made = module::module(&text, &uses, in_loops(&one.name));
+        let own = (!one.is_program).then(|| one.name.clone());
+        let mut made = module::module(&text, own.as_deref(), &uses, in_loops(&one.name));
         if made.contains(kit::MAIN) {
             made = made.replacen(kit::MAIN, kit::RENAMED, 1) + kit::CALLER;
         }
         let made = Made {
             source: Some(source.clone()),
+            own,
             text: made,
         };
         files.insert(place(one, source, sources.len() == 1), made);
@@ -118,7 +127,11 @@ fn of_crate(root: &Path, one: &Crate) -> io::Result<Files> {
 }
 
 fn by_hand(text: String) -> Made {
-    Made { source: None, text }
+    Made {
+        source: None,
+        own: None,
+        text,
+    }
 }
 
 /// The modules of the library, as lines of its first file.
@@ -135,6 +148,9 @@ fn modules(tree: &Tree) -> String {
             _ if OF_PROGRAMS.contains(&name) => "#[doc(hidden)]\npub ",
             _ => "pub ",
         };
+        if MODELLED.contains(&name) {
+            lines += "#[allow(dead_code)]\n";
+        }
         lines += &format!("{how}mod {name};\n");
     }
     lines
@@ -281,7 +297,8 @@ fn check(root: &Path, files: &Files, into: &Path) -> Result<same::Compared, Stri
         let text = read(into.join(name))?;
         let differs = |why| format!("{}: {why}", name.display());
         if let Some(source) = &made.source {
-            let compared = same::compare(&read(root.join(source))?, &text).map_err(differs)?;
+            let source = read(root.join(source))?;
+            let compared = same::compare(&source, &text, made.own.as_deref()).map_err(differs)?;
             all.functions += compared.functions;
             all.tokens += compared.tokens;
         }

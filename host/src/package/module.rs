@@ -1,31 +1,37 @@
 //! A file of Rattle as a module of Rust: what the prover alone reads is taken away, remarks above items become doc
 //! comments, and what Rust has to be told beside it is added outside of the functions: the modules that the file names,
-//! which structs and enums are values that are copied, and which functions are parts of the loops that call them.
+//! that values which are copied are also compared and shown, and which functions are parts of the loops that call them.
 use crate::rattle::code::{self, Token};
 use crate::rattle::kit;
 
-/// The text of a module. `uses` are the lines that name other modules, `in_loops` the functions that become parts of the
-/// loops that call them.
-pub fn module(text: &str, uses: &[String], in_loops: &[&str]) -> String {
+/// The text of a module. `own` is the module that a library's crate becomes, which the file names `crate`; `uses` are the
+/// lines that name other modules, `in_loops` the functions that become parts of the loops that call them.
+pub fn module(text: &str, own: Option<&str>, uses: &[String], in_loops: &[&str]) -> String {
     let mut writer = Writer {
         in_loops,
         out: Vec::new(),
         remark: Vec::new(),
         place: Place::Outside,
         begun: false,
-        copied: false,
+        uses_at: 0,
     };
     let lines = code::lines(text);
     for (at, line) in lines.iter().enumerate() {
         if line.ghost {
-            if line.text.starts_with("#[derive(") {
-                writer.copied = line.text.contains("Copy");
+            if line.text.ends_with("};") {
+                writer.close();
             }
             continue;
         }
         let narrow = needs_its_caller(&lines[at..]);
-        writer.line(line.text, narrow, uses);
+        writer.line(line.text, narrow);
     }
+    if let Some(own) = own {
+        for line in writer.out.iter_mut() {
+            *line = within(line, own);
+        }
+    }
+    writer.begin(uses);
     writer.flush(false);
     let mut text = writer.out.join("\n");
     text.push('\n');
@@ -49,8 +55,27 @@ struct Writer<'a> {
     place: Place,
     /// The file's own remark is over.
     begun: bool,
-    /// The last derive says that the values of a type are copied.
-    copied: bool,
+    /// Where the lines that name other modules go.
+    uses_at: usize,
+}
+
+/// A line with another path in the place of one.
+fn renamed(line: &str, path: &str, by: &str) -> String {
+    let mut parts = line.split(path);
+    let mut named = parts.next().unwrap_or_default().to_string();
+    for part in parts {
+        let whole = !named.ends_with(|c: char| c.is_ascii_alphanumeric() || c == '_');
+        named += if whole { by } else { path };
+        named += part;
+    }
+    named
+}
+
+/// A line that names its own crate, by the name of the module that this is, and of Rust's std the part that needs no
+/// system.
+fn within(line: &str, own: &str) -> String {
+    let line = renamed(line, "crate::", &format!("crate::{own}::"));
+    renamed(&line, "std::", "core::")
 }
 
 fn indent(line: &str) -> String {
@@ -59,7 +84,7 @@ fn indent(line: &str) -> String {
 
 /// Whether a function, at whose head the lines begin, has a `requires`: without it nothing holds a caller to it.
 fn needs_its_caller(lines: &[code::Line]) -> bool {
-    let head = |line: &&code::Line| line.ghost || !line.text.trim_end().ends_with('{');
+    let head = |line: &&code::Line| line.ghost || !line.text.trim_end().ends_with(['{', '}']);
     is_function(lines[0].text)
         && lines
             .iter()
@@ -77,16 +102,11 @@ fn is_function(line: &str) -> bool {
 /// The name of the function whose head begins with a line.
 fn name(line: &str) -> &str {
     let (_, name) = line.split_once("fn ").unwrap_or_default();
-    name.split_once('(').map_or(name, |(name, _)| name)
-}
-
-fn is_value(line: &str) -> bool {
-    let line = line.strip_prefix("pub ").unwrap_or(line);
-    line.starts_with("struct ") || line.starts_with("enum ")
+    name.split_once(['(', '<']).map_or(name, |(name, _)| name)
 }
 
 impl<'a> Writer<'a> {
-    fn line(&mut self, line: &'a str, narrow: bool, uses: &[String]) {
+    fn line(&mut self, line: &'a str, narrow: bool) {
         match &self.place {
             Place::Body(indent) => {
                 let over = line == format!("{indent}}}");
@@ -97,46 +117,67 @@ impl<'a> Writer<'a> {
             }
             Place::Head(indent) => {
                 let indent = indent.clone();
-                if line.trim_start() == "{" {
-                    self.open();
+                if matches!(line.trim_start(), "{" | "{}") {
+                    self.open(line.trim_start());
                 } else {
                     self.out.push(line.to_string());
                 }
                 if line.ends_with('{') {
                     self.place = Place::Body(indent);
+                } else if line.ends_with("{}") {
+                    self.place = Place::Outside;
                 }
             }
-            Place::Outside => self.outside(line, narrow, uses),
+            Place::Outside => self.outside(line, narrow),
         }
     }
 
-    /// The brace that opens a body goes after the head, from which the contract was taken.
-    fn open(&mut self) {
+    /// The brace that opens a body goes after the head, from which the contract was taken; so does a body of nothing.
+    fn open(&mut self, brace: &str) {
         if let Some(head) = self.out.last_mut() {
-            head.push_str(" {");
+            head.push(' ');
+            head.push_str(brace);
         }
     }
 
-    fn outside(&mut self, line: &'a str, narrow: bool, uses: &[String]) {
+    /// A function of a trait may have no body: its head ends where its contract does.
+    fn close(&mut self) {
+        if let Place::Head(_) = self.place {
+            if let Some(head) = self.out.last_mut() {
+                head.push(';');
+            }
+            self.place = Place::Outside;
+        }
+    }
+
+    fn outside(&mut self, line: &'a str, narrow: bool) {
         if line.trim_start().starts_with("//") {
             self.remark.push(line);
             return;
         }
         if !self.begun {
-            self.begin(uses);
+            self.begun = true;
+            for line in self.remark.drain(..) {
+                self.out.push(line.replacen("//", "//!", 1));
+            }
+            self.uses_at = self.out.len();
         }
         self.flush(!line.trim().is_empty());
         if line == "#[unsafe(no_mangle)]" {
             return;
         }
-        if line.is_empty() && self.out.last().map_or(true, String::is_empty) {
+        let begins = |last: &String| last.is_empty() || last.ends_with('{');
+        if line.is_empty() && self.out.last().map_or(true, begins) {
             return;
         }
-        if is_value(line) && self.copied {
-            self.out
-                .push("#[derive(Clone, Copy, Debug, PartialEq, Eq)]".to_string());
+        if line.trim_start() == "}" && self.out.last().is_some_and(String::is_empty) {
+            self.out.pop();
         }
-        let mut text = line.replacen("pub extern \"C\" fn", "pub fn", 1);
+        if line.trim_start().starts_with("#[derive(") {
+            self.out.extend(code::derive(line));
+            return;
+        }
+        let mut text = code::line_of_rust(line).replacen("pub extern \"C\" fn", "pub fn", 1);
         if is_function(line) {
             if self.in_loops.contains(&name(line)) {
                 self.out.push("#[inline(always)]".to_string());
@@ -144,25 +185,24 @@ impl<'a> Writer<'a> {
             if narrow {
                 text = text.replacen("pub fn", "pub(crate) fn", 1);
             }
-            self.place = if line.ends_with('{') {
-                Place::Body(indent(line))
-            } else {
-                Place::Head(indent(line))
+            self.place = match line.chars().last() {
+                Some(';') => Place::Outside,
+                _ if line.ends_with("{}") => Place::Outside,
+                Some('{') => Place::Body(indent(line)),
+                _ => Place::Head(indent(line)),
             };
         }
         self.out.push(text);
     }
 
-    /// The file's own remark, and then what the module uses.
+    /// Adds, after the file's own remark, what the module uses.
     fn begin(&mut self, uses: &[String]) {
-        self.begun = true;
-        for line in self.remark.drain(..) {
-            self.out.push(line.replacen("//", "//!", 1));
+        let mut lines = uses.to_vec();
+        let parted = self.out.get(self.uses_at).is_some_and(String::is_empty);
+        if !lines.is_empty() && !parted {
+            lines.push(String::new());
         }
-        self.out.extend(uses.iter().cloned());
-        if !uses.is_empty() {
-            self.out.push(String::new());
-        }
+        self.out.splice(self.uses_at..self.uses_at, lines);
     }
 
     /// The remark that was kept, as a doc comment if an item follows.
@@ -248,6 +288,15 @@ pub fn f(a: u8) -> u8
 fn h() {
     f(1);
 }
+
+trait Change {
+    ghost changed: { Self → ℕ };
+
+    fn of(self, a: u8) -> u8
+        ensures { result ≡ changed self };
+
+    fn none(self) {}
+}
 ";
 
     #[test]
@@ -284,9 +333,39 @@ pub(crate) fn f(a: u8) -> u8 {
 fn h() {
     f(1);
 }
+
+trait Change {
+    fn of(self, a: u8) -> u8;
+
+    fn none(self) {}
+}
 ";
         let uses = ["use crate::lent;".to_string()];
-        assert_eq!(module(FILE, &uses, &["f", "g"]), wanted);
+        assert_eq!(module(FILE, None, &uses, &["f", "g"]), wanted);
+    }
+
+    #[test]
+    fn a_trait() {
+        let file = "// A part.\npub trait Change {\n    ghost done: { ℕ };\n\n    fn of(self, all: &[u8; 2]) -> u8\n        \
+                    requires { 1 }\n        ensures { result\n            ≡ 1 };\n\n    fn other(self);\n}\n\nstruct A {\n    \
+                    a: u8,\n}\n";
+        let wanted = "//! A part.\npub trait Change {\n    fn of(self, all: &[u8; 2]) -> u8;\n\n    fn other(self);\n}\n\n\
+                      struct A {\n    a: u8,\n}\n";
+        assert_eq!(module(file, None, &[], &[]), wanted);
+        assert!(super::super::same::compare(file, wanted, None).is_ok());
+        let other = wanted.replacen("a: u8,\n", "a: u8,\n    b: u8,\n", 1);
+        assert!(super::super::same::compare(file, &other, None).is_err());
+    }
+
+    #[test]
+    fn a_file_that_names_its_own_crate() {
+        let file =
+            "// A part.\nuse std::fmt;\nuse crate::{Head, Place};\n\nfn f() {\n    crate::g(a_crate::h())\n}\n";
+        let wanted =
+            "//! A part.\nuse crate::lent;\n\nuse core::fmt;\nuse crate::chain::{Head, Place};\n\nfn f() {\n    \
+                      crate::chain::g(a_crate::h())\n}\n";
+        let uses = ["use crate::lent;".to_string()];
+        assert_eq!(module(file, Some("chain"), &uses, &[]), wanted);
     }
 
     #[test]

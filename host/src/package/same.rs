@@ -65,6 +65,10 @@ fn starts(tokens: &[Token], with: &[&str]) -> bool {
             .all(|(token, text)| token.text == *text)
 }
 
+fn texts<'a>(tokens: &[Token<'a>]) -> Vec<&'a str> {
+    tokens.iter().map(|token| token.text).collect()
+}
+
 /// The tokens up to and with the first of this text.
 fn up_to(tokens: &[Token], end: &str) -> usize {
     let end = tokens.iter().position(|token| token.text == end);
@@ -98,6 +102,46 @@ fn is_clause(tokens: &[Token]) -> bool {
         && starts(&tokens[1 + name..], &["{"])
 }
 
+/// A ghost part of a type, a trait or an `impl`, with its sign, or the `impl` of a model: so many tokens.
+fn ghost_item(source: &[Token]) -> usize {
+    let of_model = starts(source, &["use"]) && source.len() > 2 && starts(&source[2..], &MODEL);
+    if starts(source, &["ghost", "use"]) || of_model {
+        return up_to(source, ";");
+    }
+    if starts(source, &["ghost"]) || starts(source, &["pub", "ghost"]) {
+        let end = block(source, "{", "}");
+        let sign = source.get(end).map(|token| token.text);
+        return end + usize::from(sign == Some(",") || sign == Some(";"));
+    }
+    let head = up_to(source, "{");
+    let is_model = source[..head]
+        .windows(2)
+        .any(|pair| starts(pair, &["Model", "for"]));
+    match starts(source, &["impl"]) && is_model {
+        true => block(source, "{", "}"),
+        false => 0,
+    }
+}
+
+const MODEL: [&str; 7] = [":", ":", "marker", ":", ":", "Model", ";"];
+
+/// The head of the function by which a type is shown as text, by the kit's std, and by Rust's.
+const SHOWN: [&str; 2] = [
+    "fmt<W: fmt::Write>(&self, f: &mut fmt::Formatter<W>)",
+    "fmt(&self, f: &mut fmt::Formatter<'_>)",
+];
+
+/// How many tokens of either say so at the beginning of both.
+fn shown(source: &[Token], made: &[Token]) -> Option<(usize, usize)> {
+    let [kit, rust] = SHOWN.map(|text| {
+        tokens(text)
+            .iter()
+            .map(|token| token.text)
+            .collect::<Vec<_>>()
+    });
+    (starts(source, &kit) && starts(made, &rust)).then_some((kit.len(), rust.len()))
+}
+
 /// What the prover alone reads, how C is told of a function, how a table is laid out, and which types are values that
 /// are copied, which Rust is told by a derive of its own: so many tokens at the beginning may be left out.
 fn left_out(source: &[Token]) -> usize {
@@ -108,9 +152,6 @@ fn left_out(source: &[Token]) -> usize {
         &["#", "[", "tactic", "("],
         &["#", "[", "derive", "("],
     ];
-    if starts(source, &["ghost", "use"]) {
-        return up_to(source, ";");
-    }
     if is_clause(source) {
         return block(source, "{", "}");
     }
@@ -181,10 +222,29 @@ fn without_caller(mut made: Vec<Token<'_>>) -> Vec<Token<'_>> {
     made
 }
 
+/// The tokens of a file in which its own crate has the name of the module that it becomes, `crate::NAME::` for `crate::`,
+/// and std is core.
+fn named<'a>(source: Vec<Token<'a>>, own: Option<&'a str>) -> Vec<Token<'a>> {
+    let Some(own) = own else {
+        return source;
+    };
+    let mut tokens = Vec::new();
+    for (at, token) in source.iter().enumerate() {
+        let line = token.line;
+        let is_std = starts(&source[at..], &["std", ":", ":"]);
+        let text = if is_std { "core" } else { token.text };
+        tokens.push(Token { text, ..*token });
+        if starts(&source[at..], &["crate", ":", ":"]) {
+            tokens.extend([":", ":", own].map(|text| Token { text, line }));
+        }
+    }
+    tokens
+}
+
 /// Compares a file of the package with its source. The source may begin as what is added does, so each number of
 /// added parts is tried.
-pub fn compare(source: &str, made: &str) -> Result<Compared, String> {
-    let (source, made) = (tokens(source), without_caller(tokens(made)));
+pub fn compare(source: &str, made: &str, own: Option<&str>) -> Result<Compared, String> {
+    let (source, made) = (named(tokens(source), own), without_caller(tokens(made)));
     let mut begin = 0;
     let mut furthest = (0, String::new());
     loop {
@@ -206,17 +266,29 @@ fn from(source: &[Token], made: &[Token]) -> Result<Compared, (usize, String)> {
     let mut compared = Compared::default();
     // In the head of a function, and whether it is public; how deep in the braces of a body.
     let (mut head, mut public, mut depth) = (false, false, 0);
+    // How deep in the brackets of a head, which a function of a trait may end without a body.
+    let mut brackets = 0;
     while i < source.len() || j < made.len() {
         // Attributes as wholes, since each begins like every other.
         if depth == 0 {
+            if ghost_item(&source[i..]) > 0 {
+                i += ghost_item(&source[i..]);
+                continue;
+            }
             if starts(&source[i..], &["#"]) && left_out(&source[i..]) > 0 {
                 i += left_out(&source[i..]);
                 continue;
             }
-            if starts(&made[j..], &["#"]) && added(&made[j..], None) > 0 {
-                j += added(&made[j..], None);
+            let more = added(&made[j..], None);
+            let in_both = starts(&source[i..], &texts(&made[j..j + more]));
+            if starts(&made[j..], &["#"]) && more > 0 && !in_both {
+                j += more;
                 continue;
             }
+        }
+        if let Some((kit, rust)) = shown(&source[i..], &made[j..]) {
+            (i, j, head) = (i + kit, j + rust, true);
+            continue;
         }
         let (old, new) = (source.get(i), made.get(j));
         if old.map(|token| token.text) != new.map(|token| token.text) {
@@ -238,9 +310,12 @@ fn from(source: &[Token], made: &[Token]) -> Result<Compared, (usize, String)> {
         compared.tokens += usize::from(depth > 0);
         match source[i].text {
             "fn" => {
-                head = true;
+                (head, brackets) = (true, 0);
                 public = j > 0 && made[j - 1].text == "pub";
             }
+            "(" | "[" => brackets += 1,
+            ")" | "]" => brackets -= 1,
+            ";" if brackets == 0 => head = false,
             "{" if depth > 0 => depth += 1,
             "{" if head => {
                 (head, depth) = (false, 1);
@@ -307,12 +382,12 @@ pub extern \"C\" fn f(a: u8) -> u8
 ";
 
     fn made() -> String {
-        module(FILE, &["use crate::lent;".to_string()], &[])
+        module(FILE, None, &["use crate::lent;".to_string()], &[])
     }
 
     #[test]
     fn the_text_is_the_same() {
-        let compared = compare(FILE, &made()).unwrap();
+        let compared = compare(FILE, &made(), None).unwrap();
         assert_eq!(compared.functions, 1);
         assert_eq!(compared.tokens, 17);
     }
@@ -335,34 +410,34 @@ pub extern \"C\" fn f(a: u8) -> u8
         ] {
             let other = made().replacen(old, new, 1);
             assert_ne!(other, made(), "{old}");
-            assert!(compare(FILE, &other).is_err(), "{old} -> {new}");
+            assert!(compare(FILE, &other, None).is_err(), "{old} -> {new}");
         }
         let longer = made() + "fn g() {}\n";
-        assert!(compare(FILE, &longer).is_err());
+        assert!(compare(FILE, &longer, None).is_err());
     }
 
     #[test]
     fn a_function_with_a_requires_is_not_public() {
         let public = made().replacen("pub(crate) fn", "pub fn", 1);
-        let why = compare(FILE, &public).unwrap_err();
+        let why = compare(FILE, &public, None).unwrap_err();
         assert_eq!(why, "a public function has lost its requires");
         let private = made().replacen("pub(crate) fn", "fn", 1);
-        assert!(compare(FILE, &private).is_err());
+        assert!(compare(FILE, &private, None).is_err());
     }
 
     #[test]
     fn what_a_compiler_is_told_beside_the_text() {
         let source = "#[rattlefmt::skip]\nconst A: u8 = 1;\n\nfn f() {}\n";
-        let made = module(source, &[], &["f"]);
+        let made = module(source, None, &[], &["f"]);
         assert_eq!(made, "const A: u8 = 1;\n\n#[inline(always)]\nfn f() {}\n");
-        assert!(compare(source, &made).is_ok());
+        assert!(compare(source, &made, None).is_ok());
     }
 
     #[test]
     fn a_main_that_takes_the_system() {
         let source = "fn main(rt: HostRuntime) -> io::Result<()> {\n    f(&rt)\n}\n";
         let made = source.replacen("main", "proved_main", 1) + CALLER;
-        assert!(compare(source, &made).is_ok());
+        assert!(compare(source, &made, None).is_ok());
         for (old, new) in [
             ("    f(&rt)", "    g(&rt)"),
             ("fn proved_main", "fn other_main"),
@@ -371,14 +446,31 @@ pub extern \"C\" fn f(a: u8) -> u8
         ] {
             let other = made.replacen(old, new, 1);
             assert_ne!(other, made, "{old}");
-            assert!(compare(source, &other).is_err(), "{old} -> {new}");
+            assert!(compare(source, &other, None).is_err(), "{old} -> {new}");
         }
+    }
+
+    #[test]
+    fn ghost_parts_and_the_own_crate() {
+        let source = "use std::marker::Model;\n\nuse crate::search::f;\n\n#[derive(Clone, Copy)]\npub struct Place {\n    \
+                      at: u16,\n    pub ghost few: { at ≤ 3 },\n    pub kind: u8,\n}\n\nimpl Model for Place {\n    \
+                      ghost Value = { ℕ };\n}\n\nimpl Place {\n    fn fmt<W: fmt::Write>(&self, f: &mut \
+                      fmt::Formatter<W>) -> fmt::Result {\n        crate::g()\n    }\n}\n";
+        let made = module(source, Some("chain"), &[], &[]);
+        assert!(
+            !made.contains("ghost") && made.contains("crate::chain::g()"),
+            "{made}"
+        );
+        assert!(compare(source, &made, Some("chain")).is_ok());
+        assert!(compare(source, &made, Some("other")).is_err());
+        let other = made.replacen("    pub kind: u8,\n", "", 1);
+        assert!(compare(source, &other, Some("chain")).is_err());
     }
 
     #[test]
     fn a_contract_in_a_body_is_no_contract() {
         let source = "fn f() {\n    ensures { 1 }\n}\n";
-        assert!(compare(source, "fn f() {\n}\n").is_err());
+        assert!(compare(source, "fn f() {\n}\n", None).is_err());
     }
 
     #[test]

@@ -23,9 +23,56 @@ const SIGNS: [&str; 20] = [
     "..", "/=", "%=", "|=", "&=",
 ];
 
-/// Attributes that the kit alone reads: how it lays a line out, what its prover tries, and which types are copied or
-/// may be let go, which Rust is told by `derive` of its own.
-const ATTRIBUTES: [&str; 4] = ["#[rattlefmt::skip]", "#![tactic(", "#[tactic(", "#[derive("];
+/// Attributes that the kit alone reads: how it lays a line out, and what its prover tries.
+const ATTRIBUTES: [&str; 3] = ["#[rattlefmt::skip]", "#![tactic(", "#[tactic("];
+
+/// How the kit's std has a type shown as text, and how Rust's has it.
+pub const SHOWN: [(&str, &str); 1] = [(
+    "fn fmt<W: fmt::Write>(&self, f: &mut fmt::Formatter<W>) -> fmt::Result",
+    "fn fmt(&self, f: &mut fmt::Formatter<'_>) -> fmt::Result",
+)];
+
+/// A line of Rattle as Rust has it.
+pub fn line_of_rust(line: &str) -> String {
+    SHOWN.iter().fold(line.to_string(), |line, (kit, rust)| {
+        line.replacen(kit, rust, 1)
+    })
+}
+
+/// What Rust derives where the kit derives what a line says: the same without `Drop`, which Rust has of itself. Values
+/// that are copied are compared and shown too.
+pub fn derive(line: &str) -> Option<String> {
+    let list = line.trim_start().strip_prefix("#[derive(")?;
+    let list = list.strip_suffix(")]")?.split(", ");
+    let mut names: Vec<&str> = list.filter(|name| *name != "Drop").collect();
+    if names.contains(&"Copy") {
+        for more in ["Debug", "PartialEq", "Eq"] {
+            if !names.contains(&more) {
+                names.push(more);
+            }
+        }
+    }
+    let indent = &line[..line.len() - line.trim_start().len()];
+    match names.join(", ") {
+        names if names.is_empty() => None,
+        names => Some(format!("{indent}#[derive({names})]")),
+    }
+}
+
+/// The bytes of what the prover alone reads of a type, a trait or an `impl`: a ghost part with its sign, or the `impl` of
+/// a model.
+fn ghost_item(code: &str) -> Option<usize> {
+    let line = code.lines().next().unwrap_or_default();
+    if line.starts_with("ghost use ") || line == "use std::marker::Model;" {
+        return Some(line.len());
+    }
+    if line.starts_with("ghost ") || line.starts_with("pub ghost ") {
+        let end = block(code, '{', '}');
+        return Some(end + usize::from(code[end..].starts_with([',', ';'])));
+    }
+    let is_model = line.starts_with("impl") && line.contains(" Model for ");
+    is_model.then(|| block(code, '{', '}'))
+}
 
 /// Whether a clause of a contract begins here: `ensures { .. }`, or one that has a name, `ensures upper_bound { .. }`.
 pub fn is_clause(code: &str, kind: &str) -> bool {
@@ -39,7 +86,7 @@ pub fn is_clause(code: &str, kind: &str) -> bool {
     })
 }
 
-/// The `ghost use` lines and the contracts, and the attributes that the kit alone reads.
+/// The `ghost use` lines, the ghost parts and the contracts, and the attributes that the kit alone reads.
 fn ghost_parts(text: &str) -> Vec<Range<usize>> {
     let mut parts: Vec<Range<usize>> = Vec::new();
     let mut at = 0;
@@ -50,8 +97,8 @@ fn ghost_parts(text: &str) -> Vec<Range<usize>> {
         if parts.last().is_some_and(|part| from < part.end) {
             continue;
         }
-        if code.starts_with("ghost use ") {
-            parts.push(from..at - 1);
+        if let Some(bytes) = ghost_item(&text[from..]) {
+            parts.push(from..from + bytes);
         } else if ATTRIBUTES.iter().any(|begin| code.starts_with(begin)) {
             parts.push(from..from + block(&text[from..], '[', ']'));
         } else if is_clause(code, "requires") || is_clause(code, "ensures") {
@@ -112,8 +159,7 @@ fn uses(text: &str) -> String {
     }
 }
 
-/// The file as Rust: without what the kit alone reads; structs and enums are values that are copied, but for those that
-/// are only let go; a `main` that takes nothing.
+/// The file as Rust: without what the kit alone reads, and with a `main` that takes nothing.
 pub fn rust(text: &str) -> String {
     let mut code = uses(text);
     let mut at = 0;
@@ -125,26 +171,13 @@ pub fn rust(text: &str) -> String {
     if code.contains(kit::MAIN) {
         code = code.replacen(kit::MAIN, kit::RENAMED, 1) + kit::CALLER;
     }
-    let pairs = text.lines().zip(text.lines().skip(1));
-    let let_go = pairs.filter(|(derive, _)| *derive == "#[derive(Drop)]");
-    let let_go: Vec<&str> = let_go.map(|(_, line)| line).collect();
-    let value = |line: &str| {
-        let item = line.strip_prefix("pub ").unwrap_or(line);
-        (item.starts_with("struct ") || item.starts_with("enum ")) && !let_go.contains(&line)
-    };
-    code.lines()
-        .flat_map(|line| {
-            [
-                if value(line) {
-                    "#[derive(Clone, Copy)]\n"
-                } else {
-                    ""
-                },
-                line,
-                "\n",
-            ]
-        })
-        .collect()
+    let lines = code.lines().filter_map(|line| {
+        if line.trim_start().starts_with("#[derive(") {
+            return derive(line);
+        }
+        Some(line_of_rust(line))
+    });
+    lines.flat_map(|line| [line, "\n".to_string()]).collect()
 }
 
 fn is_word(character: char) -> bool {
@@ -245,7 +278,7 @@ pub fn f(a: u8) -> u8
         let code = rust(FILE);
         assert!(!code.contains('≡') && !code.contains("ghost") && !code.contains("skip"));
         assert!(!code.contains("tactic") && !code.contains("unfolding"));
-        assert!(code.contains("#[derive(Clone, Copy)]\npub struct S {"));
+        assert!(code.contains("#[derive(Clone, Copy, Debug, PartialEq, Eq)]\npub struct S {"));
         assert_eq!(code.matches("derive").count(), 1);
         assert!(code.contains("pub fn f(a: u8) -> u8"));
         assert!(code.contains("    a <= b'+' // less\n}"));
@@ -255,6 +288,53 @@ pub fn f(a: u8) -> u8
     fn what_is_only_let_go_is_not_copied() {
         let code = rust("#[derive(Drop)]\npub enum Input {\n    Named(File),\n}\n");
         assert!(code.contains("pub enum Input {") && !code.contains("derive"));
+    }
+
+    #[test]
+    fn ghost_parts_of_types_are_taken_away() {
+        let text = "\
+use std::marker::Model;
+
+pub struct Page<'a> {
+    pub columns: usize,
+    pub ghost few: { columns ≤ 132 },
+}
+
+impl Model for Place {
+    ghost Value = { ℕ };
+}
+
+impl From<u8> for Kind {
+    ghost from_gives = { λ n. n };
+    fn from(n: u8) -> Self {
+        Kind(n)
+    }
+}
+";
+        let code = rust(text);
+        assert!(!code.contains("ghost") && !code.contains("Model") && !code.contains("≤"));
+        assert!(
+            code.contains("    pub columns: usize,\n")
+                && code.contains("impl From<u8> for Kind {\n")
+        );
+        let signs = tokens(text)
+            .into_iter()
+            .filter(|token| &text[token.span.clone()] == ",");
+        assert_eq!(signs.count(), 1);
+    }
+
+    #[test]
+    fn what_is_derived() {
+        let copied = derive("#[derive(Clone, Copy, Hash)]");
+        assert_eq!(
+            copied.as_deref(),
+            Some("#[derive(Clone, Copy, Hash, Debug, PartialEq, Eq)]")
+        );
+        assert_eq!(derive("#[derive(Drop)]"), None);
+        assert_eq!(
+            derive("    #[derive(Debug, Drop)]").as_deref(),
+            Some("    #[derive(Debug)]")
+        );
     }
 
     #[test]

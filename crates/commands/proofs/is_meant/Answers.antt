@@ -1,19 +1,12 @@
-use mathlib.Core.Path.{refl}
-use native.Mathlib.Nat.{pos_of_ne-zero}
-use borrow.Author.Tests.{lt-ltb}
-use Rattle.commands.specs.Commands.{is_meant}
+use mathlib.Core.Path.{◌∙◌}
+use Rattle.std.proofs.lemmas.Option.{MatchOption-at_some}
+use Rattle.commands.specs.Texts.{texts, text}
+use Rattle.commands.proofs.Splits.{first_is}
 use Rattle.commands.proofs.is_meant.Goals as goal
 
-pub returns-then-word-eq0 : goal.returns-then-word-eq0
-unfolding is_meant
-returns-then-word-eq0 c = rw (← c.first_word-word.ensures, c.if-word-eq0.true) refl
-
-pub returns : goal.returns
-unfolding is_meant
-returns c = rw (
-  ← c.first_word-word.ensures,
-  lt-ltb _ _ (pos_of_ne-zero c.if-word-eq0.false),
-  ← c.form_text.ensures,
-  ← c.first_word.ensures,
-)
-    c.same.ensures
+pub returns-in-Some-Some : goal.returns-in-Some-Some
+returns-in-Some-Some c =
+    c.eq.ensures
+    ∙ first_is (text (texts c.args.forms.now) c.args.form) c.args.line.now c.form_text.ensures
+    (MatchOption-at_some _ _ _ c.in-Some-Some.is-0 c.split_word-wanted.ensures)
+    (MatchOption-at_some _ _ _ c.in-Some-Some.is-1 c.split_word-typed.ensures)

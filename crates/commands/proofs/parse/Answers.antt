@@ -1,18 +1,22 @@
-use mathlib.Core.Path.{◌∙◌}
+use mathlib.Core.Path.{refl, sym, ◌∙◌}
 use native.Mathlib.Omega.{arith}
-use Rattle.commands.proofs.Searches.{forms_begin, forms_on, form_found, forms_end}
+use Rattle.commands.specs.Texts.{texts}
+use Rattle.commands.proofs.Tables.{form_found, form_passed, forms_end}
 use Rattle.commands.proofs.parse.Goals as goal
 
-pub loop-form-init : goal.loop-form-init
-loop-form-init c = forms_begin
-
-pub returns-in-Fits : goal.returns-in-Fits
-returns-in-Fits c = form_found c.loop-form.invariant c.form_text.ensures c.fitted-fit.ensures
-    (omega (arith, c.form_count-count.ensures)) c.in-Fits.is
+pub returns-then-is_some : goal.returns-then-is_some
+returns-then-is_some c =
+    form_found c.args.forms.now (texts c.args.names.now) c.args.line.now _ (omega arith) refl
+    c.fitted-fit.ensures (sym c.is_some.ensures ∙ c.if-is_some.true)
+    ∙ sym c.loop-form.invariant
 
 pub loop-form-preserved : goal.loop-form-preserved
-loop-form-preserved c = forms_on c.loop-form.invariant c.form_text.ensures c.fitted-fit.ensures
-    (omega (arith, c.form_count-count.ensures)) c.in_default.is
+loop-form-preserved c =
+    c.loop-form.invariant
+    ∙ form_passed c.args.forms.now (texts c.args.names.now) c.args.line.now _ (omega arith) refl
+    c.fitted-fit.ensures (sym c.is_some.ensures ∙ c.if-is_some.false)
 
 pub returns : goal.returns
-returns c = c.bare.ensures ∙ forms_end c.loop-form.invariant (omega (arith, c.form_count-count.ensures))
+returns c =
+    forms_end c.args.forms.now (texts c.args.names.now) c.args.line.now c.loop-form.form (omega arith)
+    ∙ sym c.loop-form.invariant

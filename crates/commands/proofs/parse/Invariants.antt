@@ -1,9 +1,8 @@
-use Prim.Native.Nat.{◌-◌}
-use Rattle.commands.proofs.Searches.{Unfit}
+use lib.ListN.{drop}
+use mathlib.Core.Path.{◌≡◌}
+use Rattle.commands.specs.Texts.{texts}
+use Rattle.commands.specs.Commands.{fitting, fitting_from}
 use Rattle.commands.proofs.parse.Given as goal
 
 abbrev pub invariant-loop-form : goal.invariant-loop-form
-invariant-loop-form l = Unfit l.forms l.names l.line l.form
-
-abbrev pub decreases-loop-form : goal.decreases-loop-form
-decreases-loop-form l = l.count - l.form
+invariant-loop-form l = fitting (texts l.forms) (texts l.names) l.line ≡ fitting_from (drop l.form (texts l.forms)) (texts l.names) l.line l.form

@@ -1,38 +1,14 @@
-use native.Mathlib.Omega.{arith}
-use Rattle.index.proofs.Outcome.{Names, names}
+use mathlib.Core.Path.{refl, sym, ◌∙◌}
+use Rattle.std.specs.Prelude.{Some}
+use Rattle.index.proofs.Outcome.{goes_on, none_named}
 use Rattle.index.proofs.store_with_index.Goals as goal
 
-pub returns-then-named-ge-ROWS : goal.returns-then-named-ge-ROWS
-returns-then-named-ge-ROWS c =
-    let known : Names c.args.machine c.args.shared.now c.args.screen.now c.args.attribute.now c.args.picture.now c.args.index.now c.args.address c.args.byte c.store_named-named.result c.store_named-named.new.shared c.store_named-named.new.screen c.store_named-named.new.attribute = let a = c.args in
-    names a.machine a.shared.now a.screen.now a.attribute.now a.picture.now a.index.now a.address a.byte
-    c.store_named-named.ensures in
-    known.none (omega arith)
-
-pub mend_both-marks-requires-clause-screen_len : goal.mend_both-marks-requires-clause-screen_len
-mend_both-marks-requires-clause-screen_len c =
-    let known : Names c.args.machine c.args.shared.now c.args.screen.now c.args.attribute.now c.args.picture.now c.args.index.now c.args.address c.args.byte c.store_named-named.result c.store_named-named.new.shared c.store_named-named.new.screen c.store_named-named.new.attribute = let a = c.args in
-    names a.machine a.shared.now a.screen.now a.attribute.now a.picture.now a.index.now a.address a.byte
-    c.store_named-named.ensures in
-    let lent = known.lengths (omega arith) in lent.0
-
-pub mend_both-marks-requires-clause-attribute_len : goal.mend_both-marks-requires-clause-attribute_len
-mend_both-marks-requires-clause-attribute_len c =
-    let known : Names c.args.machine c.args.shared.now c.args.screen.now c.args.attribute.now c.args.picture.now c.args.index.now c.args.address c.args.byte c.store_named-named.result c.store_named-named.new.shared c.store_named-named.new.screen c.store_named-named.new.attribute = let a = c.args in
-    names a.machine a.shared.now a.screen.now a.attribute.now a.picture.now a.index.now a.address a.byte
-    c.store_named-named.ensures in
-    let lent = known.lengths (omega arith) in lent.1.0
-
-pub mend_both-marks-requires-clause-picture_len : goal.mend_both-marks-requires-clause-picture_len
-mend_both-marks-requires-clause-picture_len c =
-    let known : Names c.args.machine c.args.shared.now c.args.screen.now c.args.attribute.now c.args.picture.now c.args.index.now c.args.address c.args.byte c.store_named-named.result c.store_named-named.new.shared c.store_named-named.new.screen c.store_named-named.new.attribute = let a = c.args in
-    names a.machine a.shared.now a.screen.now a.attribute.now a.picture.now a.index.now a.address a.byte
-    c.store_named-named.ensures in
-    let lent = known.lengths (omega arith) in lent.1.1.0
-
-pub mend_both-marks-requires-clause-index_len : goal.mend_both-marks-requires-clause-index_len
-mend_both-marks-requires-clause-index_len c =
-    let known : Names c.args.machine c.args.shared.now c.args.screen.now c.args.attribute.now c.args.picture.now c.args.index.now c.args.address c.args.byte c.store_named-named.result c.store_named-named.new.shared c.store_named-named.new.screen c.store_named-named.new.attribute = let a = c.args in
-    names a.machine a.shared.now a.screen.now a.attribute.now a.picture.now a.index.now a.address a.byte
-    c.store_named-named.ensures in
-    let lent = known.lengths (omega arith) in lent.1.1.1
+pub returns-in_default : goal.returns-in_default
+returns-in_default c =
+    let a = c.args in
+    let on =
+    goes_on a.machine a.shared.now a.screen.now a.attribute.now a.picture.now a.index.now a.address a.byte
+    (c.in_ok-lend.ensures.fits.0 refl) (c.in_ok-lend-2.ensures.fits.0 refl) (c.in_ok-lend-3.ensures.fits.0 refl)
+    (c.in_ok-lend-4.ensures.fits.0 refl) (c.in_ok-lend-5.ensures.fits.0 refl) c.in_ok-seen.ensures.number in
+    none_named a.machine a.shared.now a.screen.now a.attribute.now a.picture.now a.index.now a.address a.byte
+    (Some c.in_ok-seen.seen) on c.in_ok-seen.ensures.memory c.store_at.ensures (sym c.in_default.is ∙ c.row_named.ensures)

@@ -1,6 +1,10 @@
+use Prim.Native.Nat.{◌<◌}
 use mathlib.Core.Path.{sym}
+use Rattle.chain.specs.Places.{places}
 use Rattle.readers.proofs.Laws.{among-from}
 use Rattle.readers.proofs.among.Goals as goal
 
 pub returns : goal.returns
-returns c = sym (among-from c.args.place c.args.start c.requires.0 c.requires.1.0 c.args.bytes c.requires.1.1)
+returns c =
+    let begins : c.args.start < places = rw (← c.at.ensures.value) c.at.ensures.within in
+    rw c.at.ensures.value (sym (among-from c.args.place c.args.start c.requires.0 begins c.args.bytes c.requires.1))

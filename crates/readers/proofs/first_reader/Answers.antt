@@ -1,33 +1,43 @@
-use mathlib.Core.Path.{◌≡◌, sym, subst, ◌∙◌}
-use Rattle.chain.specs.Chain.{chain}
-use Rattle.chain.specs.Inner.{Placed}
-use Rattle.chain.proofs.Laws.{ahead_placed}
-use Rattle.readers.specs.Inner.{passed}
-use Rattle.readers.proofs.Walk.{none_found, seek_begins, seek_dark, seek_ends, seek_goes_on, seek_fails}
+use mathlib.Core.Path.{◌≡◌, sym, ap, ◌∙◌}
+use native.Mathlib.Omega.{arith}
+use Rattle.chain.specs.Chain.{row_from, ended, Whole, Torn}
+use Rattle.chain.specs.Reading.{screen_read, attribute_read}
+use Rattle.chain.specs.Page.{chain_on}
+use Rattle.readers.proofs.Walk.{none_of_shared, seek_begins, seek_torn, seek_ends, seek_goes_on, seek_fails}
 use Rattle.readers.proofs.first_reader.Goals as goal
 
-pub returns-then-not-on_screen : goal.returns-then-not-on_screen
-returns-then-not-on_screen c = none_found _ _ _ (sym c.on_screen.ensures ∙ c.if-not-on_screen.true)
+pub returns-in-Shared : goal.returns-in-Shared
+returns-in-Shared c = none_of_shared (chain_on c.args.page.now) _ c.in-Shared.is
 
 pub loop-row-init : goal.loop-row-init
-loop-row-init c = rw c.first.ensures (seek_begins _ _)
+loop-row-init c = rw c.first-head.ensures (seek_begins _ _)
 
-pub returns-in_default : goal.returns-in_default
-returns-in_default c = seek_dark c.loop-row.invariant c.loop-row-test.true c.in_default.is
+pub returns-in_default-find_terminator : goal.returns-in_default-find_terminator
+unfolding row_from screen_read attribute_read
+returns-in_default-find_terminator c =
+    let head = c.loop-row.head in
+    let torn : row_from (chain_on c.args.page.now) head ≡ Torn head =
+    ap (ended head) (sym c.find_terminator.ensures.found ∙ c.in_default-find_terminator.is) in
+    c.then_some.ensures
+    ∙ seek_torn c.loop-row.invariant c.loop-row-test.true c.torn_reads.result torn
+    (c.torn_reads.ensures ∙ rw c.capacity.ensures.value)
 
-pub pass_row-passed-requires-clause-columns_bound : goal.pass_row-passed-requires-clause-columns_bound
-pass_row-passed-requires-clause-columns_bound c = let placed : Placed c.loop-row.ahead = rw (c.loop-row.invariant.comes c.loop-row-test.true) (ahead_placed _ _) in (c.requires.columns_bound, subst Placed c.in-Row.is placed)
-
-pub returns-then-passed : goal.returns-then-passed
-returns-then-passed c =
-    let passes : c.pass_row-passed.result ≡ passed (chain c.args.columns c.args.screen.now c.args.attribute.now) c.args.seen c.loop-row.ahead = rw c.in-Row.is c.pass_row-passed.ensures in
-    seek_ends c.loop-row.invariant c.loop-row-test.true passes c.if-passed.true
-    c.in-Row.is
+pub returns-then-whole_reads : goal.returns-then-whole_reads
+unfolding row_from screen_read attribute_read
+returns-then-whole_reads c =
+    let head = c.loop-row.head in
+    let whole : row_from (chain_on c.args.page.now) head ≡ Whole head c.in-Some.cells =
+    ap (ended head) (sym c.find_terminator.ensures.found ∙ c.in-Some.is) in
+    seek_ends c.loop-row.invariant c.loop-row-test.true (rw whole (sym c.whole_reads.ensures ∙ c.if-whole_reads.true))
 
 pub loop-row-preserved : goal.loop-row-preserved
+unfolding row_from attribute_read screen_read
 loop-row-preserved c =
-    let passes : c.pass_row-passed.result ≡ passed (chain c.args.columns c.args.screen.now c.args.attribute.now) c.args.seen c.loop-row.ahead = rw c.in-Row.is c.pass_row-passed.ensures in
-    seek_goes_on c.loop-row.invariant c.loop-row-test.true passes c.if-passed.false
+    let head = c.loop-row.head in
+    let whole : row_from (chain_on c.args.page.now) head ≡ Whole head c.in-Some.cells =
+    ap (ended head) (sym c.find_terminator.ensures.found ∙ c.in-Some.is) in
+    seek_goes_on c.loop-row.invariant c.loop-row-test.true whole (sym c.whole_reads.ensures ∙ c.if-whole_reads.false)
+    c.link-head.ensures
 
 pub returns : goal.returns
-returns c = seek_fails c.loop-row.invariant c.loop-row-test.false
+returns c = seek_fails c.loop-row.invariant (omega arith) (omega arith)

@@ -6,9 +6,9 @@ use Rattle.whole_screen.proofs.Numbers.{lines_cut}
 use Rattle.whole_screen.proofs.put_lines.Goals as goal
 
 pub returns : goal.returns
-returns c = let all = c.args.all.now in
+returns c = let all = c.all_lines-all.result.now in
     let from = c.args.from in
     let bytes = length c.args.part.now in
-    let even : 2 * from + bytes - 2 * from ≡ 2 * (bytes / 2) = omega (arith, c.requires.part_len) in
-    c.copy.ensures ∙ ap (λ (n : ℕ). take n (drop (2 * from) all)) even
-    ∙ lines_cut all from (bytes / 2) c.requires.listed c.requires.part_bound
+    let even : 2 * from + bytes - 2 * from ≡ 2 * (bytes / 2) = omega (arith, c.requires.even) in
+    c.copy_from_slice.ensures.after ∙ ap (λ (n : ℕ). take n (drop (2 * from) all)) even
+    ∙ lines_cut all from (bytes / 2) c.all_lines-all.ensures c.requires.among

@@ -1,21 +1,20 @@
+use mathlib.Core.Path.{◌∙◌}
 use native.Mathlib.Omega.{arith}
-use Rattle.commands.proofs.Digits.{digits_begin, digits_on, digits_end, too_long, no_digit, over_32_bits}
+use Rattle.commands.proofs.Digits.{no_digit, over_32_bits, digit_on, digits_end}
 use Rattle.commands.proofs.meanings.number.Goals as goal
 
-pub returns-then-form-word : goal.returns-then-form-word
-returns-then-form-word c = too_long _ _ _ c.if-form-word.true
+pub returns-in_err-digit : goal.returns-in_err-digit
+returns-in_err-digit c = c.from_residual.ensures ∙ no_digit c.loop-byte.invariant c.requires.most (omega arith) c.from.ensures c.in_err-digit.ensures.value
 
-pub loop-at-init : goal.loop-at-init
-loop-at-init c = digits_begin c.if-form-word.false
+pub returns-in_err-checked_mul : goal.returns-in_err-checked_mul
+returns-in_err-checked_mul c = c.from_residual-in_err-checked_mul.ensures ∙ over_32_bits c.loop-byte.invariant c.requires.most (omega arith) c.from.ensures c.in_ok-digit.ensures.value (omega (arith, c.in_err-checked_mul.ensures))
 
-pub returns-then-base-digit : goal.returns-then-base-digit
-returns-then-base-digit c = no_digit c.loop-at.invariant c.digit-digit.ensures.value (omega arith) c.if-base-digit.true
+pub returns-in_err-value : goal.returns-in_err-value
+returns-in_err-value c = c.from_residual-in_err-value.ensures ∙ over_32_bits c.loop-byte.invariant c.requires.most (omega arith) c.from.ensures c.in_ok-digit.ensures.value (omega (arith, c.in_err-value.ensures, c.in_ok-checked_mul.ensures))
 
-pub returns-then-next-ge-TOO_LARGE : goal.returns-then-next-ge-TOO_LARGE
-returns-then-next-ge-TOO_LARGE c = over_32_bits c.loop-at.invariant c.digit-digit.ensures.value (omega arith) c.if-base-digit.false c.if-next-ge-TOO_LARGE.true
-
-pub loop-at-preserved : goal.loop-at-preserved
-loop-at-preserved c = digits_on c.loop-at.invariant c.digit-digit.ensures.value (omega arith) c.if-base-digit.false c.if-next-ge-TOO_LARGE.false
+pub loop-byte-preserved : goal.loop-byte-preserved
+loop-byte-preserved c = digit_on c.loop-byte.invariant c.requires.most (omega arith) c.from.ensures c.in_ok-digit.ensures.value
+    (omega (arith, c.in_ok-value.ensures), omega (arith, c.in_ok-value.ensures, c.in_ok-checked_mul.ensures))
 
 pub returns : goal.returns
-returns c = digits_end c.loop-at.invariant (omega arith)
+returns c = digits_end c.loop-byte.invariant (omega arith)

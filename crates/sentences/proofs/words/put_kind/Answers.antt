@@ -1,8 +1,8 @@
 use Rattle.ascii.specs.Ascii.{ascii}
-use Rattle.ascii.proofs.Laws.{◌then◌}
+use Rattle.ascii.proofs.Laws.{with_both}
 use Rattle.sentences.specs.Words.{kind_words}
 use Rattle.sentences.proofs.words.put_kind.Goals as goal
 
-pub returns-clause-put : goal.returns-clause-put
+pub returns : goal.returns
 unfolding kind_words ascii
-returns-clause-put c = c.put_width-at.ensures.put then c.put_if.ensures.put
+returns c = rw (c.put_if.ensures, c.put.ensures, c.width.ensures, with_both)

@@ -9,19 +9,17 @@ use Rattle.viewers.specs.Viewers.{viewers}
 use Rattle.viewers.proofs.Viewers.add.Goals as goal
 
 pub loop-viewer-init : goal.loop-viewer-init
-loop-viewer-init c = (omega arith, sym (partly_begins _ _))
+loop-viewer-init c = sym (partly_begins _ _)
 
 pub loop-viewer-preserved : goal.loop-viewer-preserved
 loop-viewer-preserved c =
     let eight : length c.args.self.waiting ≡ viewers = c.well_formed.0.1.1.0.1.0.1 in
     let f : ℕ → ℕ = λ (waits : ℕ). joined waits c.args.marks in
     let l = c.args.self.waiting in
-    let viewer = c.loop-viewer.viewer in (
-      omega arith,
-      ap (set c.loop-viewer.waiting viewer) c.join.ensures
-          ∙ ap (λ (now : List ℕ). set now viewer (f (get_or now viewer 0))) c.loop-viewer.invariant.1
-          ∙ partly_goes_on f l viewer (omega (arith, eight)),
-    )
+    let viewer = c.loop-viewer.viewer in
+    ap (set c.loop-viewer.waiting viewer) c.join.ensures
+    ∙ ap (λ (now : List ℕ). set now viewer (f (get_or now viewer 0))) c.loop-viewer.invariant
+    ∙ partly_goes_on f l viewer (omega (arith, eight))
 
 pub returns : goal.returns
 returns c =
@@ -29,4 +27,4 @@ returns c =
     let f : ℕ → ℕ = λ (waits : ℕ). joined waits c.args.marks in
     let l = c.args.self.waiting in
     ap (λ (waiting : List ℕ). record { waiting = waiting })
-    (c.loop-viewer.invariant.1 ∙ ap (partly f l) (omega (arith, eight)) ∙ partly_ends f l)
+    (c.loop-viewer.invariant ∙ ap (partly f l) (omega (arith, eight)) ∙ partly_ends f l)
