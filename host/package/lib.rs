@@ -59,6 +59,8 @@
 #![no_std]
 #![cfg_attr(not(rainbow_c), forbid(unsafe_code))]
 #![cfg_attr(rainbow_c, deny(unsafe_code))]
+// A Rust that is older than 1.93 warns that it will have the functions of `arrays` of itself.
+#![allow(unstable_name_collisions)]
 
 #[cfg(not(target_pointer_width = "64"))]
 compile_error!("the proofs of this library are of targets whose usize has 64 bits");

@@ -1,4 +1,5 @@
 pub mod Splits
 pub mod Digits
 pub mod Tables
+pub mod Numbers
 pub mod Worked

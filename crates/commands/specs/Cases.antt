@@ -1,8 +1,8 @@
 -- Worked cases: what lines are, with six forms and two names.
-use Rattle.std.specs.Prelude.{ℕ, ◌≡◌, List, [], ◌∷◌, map, Bool, true, false}
+use Rattle.std.specs.Prelude.{ℕ, ◌≡◌, List, [], ◌∷◌, map, Bool, true, false, Option, Some, None, if◌then◌else◌, length, nat_lt}
 use Prim.Native.String.{String}
 use Rattle.ascii.specs.Ascii.{ascii}
-use Rattle.commands.specs.Commands.{command, is_meant}
+use Rattle.commands.specs.Commands.{command, fitting, is_meant}
 use Rattle.commands.specs.declared.Command.{Command}
 
 unfoldable pub form_table : List (List ℕ)
@@ -65,6 +65,13 @@ answer c = record { form = c.form; numbers = c.first ∷ c.second ∷ c.third �
 
 abbrev pub CasesHold : Type 0
 CasesHold = map (λ (c : Case). command form_table name_table c.line) cases ≡ map answer cases
+
+-- the command that a line gives, if it fits a form
+unfoldable pub given : Case → Option Command
+given c = if nat_lt c.form (length form_table) then Some (answer c) else None
+
+abbrev pub GivenHold : Type 0
+GivenHold = map (λ (c : Case). fitting form_table name_table c.line) cases ≡ map given cases
 
 -- a line's first word tells which form is meant, though the line does not fit it
 unfoldable pub meant : List Bool

@@ -7,7 +7,7 @@ mod words;
 ghost use Rattle.std.specs.Prelude.{◌≡◌, length};
 ghost use Rattle.commands.specs.Words.{words, has_words};
 ghost use Rattle.commands.specs.Texts.{texts, text};
-ghost use Rattle.commands.specs.Commands.{before, fitted, fitting, is_meant};
+ghost use Rattle.commands.specs.Commands.{fitted, fitting, is_meant};
 
 use meanings::Meaning;
 
@@ -16,19 +16,6 @@ use meanings::Meaning;
 pub struct Command {
     pub form: usize,
     pub numbers: [usize; 4],
-}
-
-impl Command {
-    // The same form with a number before the others. A fifth is not kept.
-    fn before(self, number: usize) -> Command
-        ensures { result ≡ before number self }
-    {
-        let [first, second, third, _] = self.numbers;
-        Command {
-            form: self.form,
-            numbers: [number, first, second, third],
-        }
-    }
 }
 
 // How many forms a table has: its own length, under the name by which crates/runs speaks of it.
@@ -80,24 +67,29 @@ pub fn parse(forms: &[&[u8]], names: &[&[u8]], line: &[u8]) -> Option<Command>
     None
 }
 
-// The numbers of a line that fits a form: a call for each word of the form.
-fn fitted(names: &[&[u8]], number: usize, form: &[u8], line: &[u8]) -> Option<Command>
+// The numbers of a line that fits a form, word by word. A fifth is not kept.
+fn fitted(names: &[&[u8]], number: usize, mut form: &[u8], mut line: &[u8]) -> Option<Command>
     ensures { result
         ≡ fitted (texts names.now) number (words form.now) (words line.now) }
 {
-    match (words::split_word(form), words::split_word(line)) {
-        (None, None) => Some(Command {
-            form: number,
-            numbers: [0; 4],
-        }),
-        (Some((wanted, form)), Some((typed, line))) => {
-            let meaning = meanings::meaning_of(names, wanted, typed)?;
-            let rest = fitted(names, number, form, line)?;
-            match meaning {
-                Meaning::Number(n) => Some(rest.before(n)),
-                Meaning::Plain => Some(rest),
+    let mut numbers = [0; 4];
+    let mut found = 0;
+    while let Some((wanted, form_left)) = words::split_word(form) {
+        let (typed, line_left) = words::split_word(line)?;
+        if let Meaning::Number(n) = meanings::meaning_of(names, wanted, typed)? {
+            if found < numbers.len() {
+                numbers[found] = n;
+                found += 1;
             }
         }
-        _ => None,
+        form = form_left;
+        line = line_left;
     }
+    if has_words(line) {
+        return None;
+    }
+    Some(Command {
+        form: number,
+        numbers,
+    })
 }

@@ -23,8 +23,8 @@ pub fn write_diagnostic<const N: usize>(
     let recalls = rises(machine.held / 128, code / 128);
     match (saves, recalls) {
         (true, true) => return Err(Refusal::Edges),
-        (true, false) => *nvm = *shadow,
-        (false, true) => *shadow = *nvm,
+        (true, false) => copy(shadow, nvm),
+        (false, true) => copy(nvm, shadow),
         (false, false) => {}
     }
     Ok(Machine {
@@ -38,4 +38,14 @@ fn rises(before: u8, after: u8) -> bool
     ensures { result ≡ (eqb (before % 2) 0 && eqb (after % 2) 1) }
 {
     before % 2 == 0 && after % 2 == 1
+}
+
+// Copies all bytes. Of `copy_from_slice` the kit's compiler makes a call of `memmove` here, which a caller in C may not
+// have.
+fn copy<const N: usize>(from: &[u8; N], to: &mut [u8; N])
+    ensures { to.new ≡ from.now }
+{
+    for at in 0..N {
+        to[at] = from[at];
+    }
 }

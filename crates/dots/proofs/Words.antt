@@ -8,13 +8,11 @@ use lib.ListN.{get_or, take, replicate}
 use lib.Bits.{bit_and, bit_or, bit_xor, xor_lt, xor_shr, xor_mod, and_shr, and_mod}
 use Rattle.std.specs.Int.{w64, to_le_bytes}
 use Rattle.dots.specs.Attributes.{shade}
-use Rattle.dots.specs.Cell.{glyph_dots, twice, narrow_width, wide_width}
+use Rattle.chain.specs.Chain.{wide as wide_kind}
+use Rattle.dots.specs.Cell.{glyph_dots, twice, shown_dots, cell_dots, narrow_width, wide_width}
 use Rattle.dots.specs.Shading.{Shading, shown_cell}
-use Rattle.dots.specs.Inner.{eight, turn_of, unlit_of, half_word, last_byte}
+use Rattle.dots.specs.Inner.{eight, turn_of, unlit_of, half_word, narrow_word, shaded, last_byte, filled, cell_bytes, WordsShowDots}
 use Rattle.dots.proofs.Laws.{shade_small, each, each_same}
-
-abbrev shaded : (dots turn unlit : ℕ) → ℕ
-shaded dots turn unlit = bit_xor (bit_and dots turn) unlit
 
 abbrev word_bytes : (word : ℕ) → List ℕ
 word_bytes = to_le_bytes w64
@@ -32,9 +30,6 @@ turned lit h =
     each_same _ _ 4 (each_same (λ (n : ℕ). each (λ (k : ℕ). shaded 0xFF (bit_xor n k) k) 4) (replicate 4) 4 refl lit h)
 
 -- the words of a glyph, and its eight dots
-abbrev narrow_word : (glyph : ℕ) → ℕ
-narrow_word glyph = bit_or (half_word false (glyph / 16)) (half_word false (glyph % 16) * 2 ^ 32 % 2 ^ 64)
-
 abbrev words_of : (wide : Bool) → (glyph : ℕ) → List ℕ
 words_of true glyph = half_word true (glyph / 16) ∷ half_word true (glyph % 16) ∷ []
 words_of false glyph = narrow_word glyph ∷ []
@@ -84,9 +79,6 @@ module _ (shade_of : Bool → ℕ) (small : (dot : Bool) → shade_of dot < 4) w
       bytewise (words_of wide glyph) ∙ ap (map shade_byte) (lit_bytes wide glyph h) ∙ in_shades (dots_of wide glyph)
 
   -- with bit 0 again
-  abbrev filled : (word room : ℕ) → List ℕ
-  filled word room = word_bytes word ++ replicate (room - 8) (last_byte word)
-
   narrow :
       (columns132 : Bool) (glyph : ℕ) → glyph < 256
       → filled (shade_word (narrow_word glyph)) (narrow_width columns132) ≡ map shade_of (glyph_dots columns132 glyph)
@@ -101,6 +93,16 @@ module _ (shade_of : Bool → ℕ) (small : (dot : Bool) → shade_of dot < 4) w
   unfolding flat_map glyph_dots twice
   wide true glyph h = ap (λ (l : List ℕ). l ++ (get_or l 15 0 ∷ get_or l 15 0 ∷ [])) (eight_shown true glyph h)
   wide false glyph h = ap (λ (l : List ℕ). l ++ (get_or l 15 0 ∷ get_or l 15 0 ∷ get_or l 15 0 ∷ get_or l 15 0 ∷ [])) (eight_shown true glyph h)
+
+  cell :
+      (columns132 is_wide : Bool) (glyph : ℕ) → glyph < 256
+      → cell_bytes columns132 is_wide turn_word unlits glyph ≡ map shade_of (shown_dots columns132 is_wide glyph)
+  cell columns132 true = wide columns132
+  cell columns132 false = narrow columns132
+
+pub words_show_dots : WordsShowDots
+unfolding cell_dots
+words_show_dots m kind attribute scan = cell (shade m attribute scan) (shade_small m attribute scan) m.columns132 (wide_kind kind)
 
 module _ (s : Shading) (attribute glyph room : ℕ) (h : glyph < 256) where
   abbrev shaded_word : ℕ → ℕ

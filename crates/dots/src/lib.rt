@@ -14,7 +14,7 @@ use machine::Machine;
 use std::marker::Model;
 
 // An attribute is taken modulo 16.
-const ATTRIBUTES: usize = 16;
+pub const ATTRIBUTES: usize = 16;
 // The scan of a glyph that underline lights.
 const UNDERLINE_SCAN: usize = 9;
 

@@ -1,5 +1,6 @@
 -- No sentence of a document: what our own functions promise each other.
-use Rattle.std.specs.Prelude.{ℕ, ◌+◌, ◌%◌, cond, leb, ltb, Option, Some, None, Result, Ok, Err}
+use Rattle.std.specs.Prelude.{ℕ, ◌+◌, ◌%◌, cond, leb, ltb, Option, Some, None, Result}
+use Rattle.std.specs.Option.{ok_or}
 use Rattle.chain.specs.Chain.{Chain, places, capacity, terminator, link}
 use Rattle.chain.specs.declared.Head.{Head}
 use Rattle.explaining.specs.Explain.{cell_of, fill_of}
@@ -7,15 +8,19 @@ use Rattle.explaining.specs.declared.Reached.{Reached}
 use Rattle.explaining.specs.declared.Why.{Why}
 use Rattle.explaining.specs.declared.Why.TheVariants.{Past}
 
--- what the chain comes to after a row with this head
-abbrev pub after_end : Chain → (row : ℕ) → Head → Option ℕ → Result Reached ℕ
-after_end c row head (Some cells) =
+-- what a row with this head leads to, if it has a link
+abbrev pub follows_end : Chain → Head → Option ℕ → Option Reached
+follows_end c head (Some cells) =
     let place = head.start + cells in
-    Ok (record { head = link c.screen c.attribute place; led = Some ((place + 1) % places) })
-after_end c row head None = Err row
+    Some (record { head = link c.screen c.attribute place; led = Some ((place + 1) % places) })
+follows_end c head None = None
 
+abbrev pub follows : Chain → Head → Option Reached
+follows c head = follows_end c head (terminator c head)
+
+-- what the chain comes to after it; where it has none, it is the row that tore
 abbrev pub after : Chain → (row : ℕ) → Head → Result Reached ℕ
-after c row head = after_end c row head (terminator c head)
+after c row head = ok_or (follows c head) row
 
 -- why a column of a row that is reached shows what it shows
 abbrev pub in_ended : Reached → (column : ℕ) → Option ℕ → Why

@@ -10,7 +10,7 @@ ghost use Rattle.records.specs.Record.{record_pairs};
 ghost use Rattle.explaining.specs.Explain.{reached, why};
 ghost use Rattle.explaining.specs.Call.{in_numbers, explain};
 ghost use Rattle.explaining.specs.Numbers.{numbers, told};
-ghost use Rattle.explaining.specs.Inner.{after, in_row};
+ghost use Rattle.explaining.specs.Inner.{follows, in_row};
 
 use chain::{Head, Page};
 use lent::Refusal;
@@ -114,16 +114,12 @@ impl From<Result<Why, Refusal>> for Explained {
     }
 }
 
-// What a row leads to: the row that its link points to, and the place of the link; a torn one leads nowhere, and is the
-// row that tore.
-fn follow(page: &Page, row: usize, head: &Head) -> Result<Reached, u8>
-    requires { row < rows }
-    ensures { result ≡ after (chain_on page.now) row head.now }
+// What a row leads to: the row that its link points to, and the place of the link; a torn one leads nowhere.
+fn follow(page: &Page, head: &Head) -> Option<Reached>
+    ensures { result ≡ follows (chain_on page.now) head.now }
 {
-    let Some(cells) = page.find_terminator(head) else {
-        return Err(row as u8);
-    };
-    Ok(Reached {
+    let cells = page.find_terminator(head)?;
+    Some(Reached {
         head: page.link(head, cells),
         led: Some(head.start.after(cells + 1).at() as u16),
     })
@@ -141,7 +137,7 @@ pub fn reach(page: &Page, row: usize) -> Result<Reached, u8>
         });
     }
     let before = reach(page, row - 1)?;
-    follow(page, row - 1, &before.head)
+    follow(page, &before.head).ok_or((row - 1) as u8)
 }
 
 // Why a column of a row that is not dark shows what it shows.

@@ -15,7 +15,7 @@ pub const CODE_BYTES: usize = 16;
 // A glyph table, all codes of it.
 pub type Table = [u8; lent::GLYPH_BYTES];
 
-const FIRST_SCAN: usize = 1;
+pub const FIRST_SCAN: usize = 1;
 
 pub const LAST_SCAN: usize = 10;
 

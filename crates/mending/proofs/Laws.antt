@@ -1,12 +1,12 @@
 -- Laws about the mended picture: its records, and that those ahead of f stay and are not marked.
-use Prim.Native.Nat.{ℕ, ◌*◌, ◌≤◌, ◌<◌}
+use Prim.Native.Nat.{ℕ, zero, suc, ◌*◌, ◌≤◌, ◌<◌}
 use mathlib.Core.Path.{◌≡◌, refl, ◌∙◌}
-use mathlib.Core.List.{List}
-use mathlib.Core.Bool.{Bool, true, false, cond}
+use mathlib.Core.List.{List, [], ◌∷◌}
+use mathlib.Core.Bool.{Bool, true, false, cond, not, ◌&&◌, ◌||◌}
 use native.Mathlib.Omega.{arith}
-use lib.ListN.{length, take, drop, length-drop}
+use lib.ListN.{length, get_or, take, drop, length-drop}
 use lib.Seq.{length-take-le}
-use lib.Dec.{ltb}
+use lib.Dec.{eqb, ltb}
 use Rattle.std.specs.Str.{bytes_eq}
 use Rattle.std.proofs.lemmas.Slice.Eq.{bytes_eq-Decides}
 use borrow.Author.Tests.{lt-ltb}
@@ -21,6 +21,26 @@ use Rattle.mending.specs.Mending.{mended_record, mended, changed}
 -- bytes are the same as themselves
 pub same_self : (xs : List ℕ) → bytes_eq xs xs ≡ true
 same_self xs = (bytes_eq-Decides xs xs).1 refl
+
+-- bytes up to one more differ where those before it do, or it does
+pub one_more :
+    (xs ys : List ℕ) (n : ℕ) → n < length xs → n < length ys
+    → not (bytes_eq (take (suc n) xs) (take (suc n) ys))
+    ≡ (not (bytes_eq (take n xs) (take n ys)) || not (eqb (get_or xs n 0) (get_or ys n 0)))
+one_more [] ys n h k = absurd (omega arith)
+one_more (x ∷ xs) [] n h k = absurd (omega arith)
+one_more (x ∷ xs) (y ∷ ys) zero h k = alone (eqb x y)
+  where
+    alone : (b : Bool) → not (b && true) ≡ (false || not b)
+    alone true = refl
+    alone false = refl
+one_more (x ∷ xs) (y ∷ ys) (suc n) h k =
+    go (eqb x y) (bytes_eq (take (suc n) xs) (take (suc n) ys)) (bytes_eq (take n xs) (take n ys))
+    (not (eqb (get_or xs n 0) (get_or ys n 0))) (one_more xs ys n (omega arith) (omega arith))
+  where
+    go : (b more all one : Bool) → not more ≡ (not all || one) → not (b && more) ≡ (not (b && all) || one)
+    go true more all one e = e
+    go false more all one e = refl
 
 module _ (c : Chain) (f : ℕ) (old : List ℕ) (wide : c.columns ≤ record_pairs) (long : length old ≡ picture_bytes) where
   record_sized : (row : ℕ) → row < rows → length (mended_record c f old row) ≡ record_bytes

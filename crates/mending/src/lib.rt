@@ -46,16 +46,29 @@ impl From<Result<u32, Refusal>> for Stored {
     }
 }
 
+// Whether a record that was drawn differs from the one that was kept. The loop has no way out but its end, so that the
+// bytes are compared together. To compare arrays as they are, compilers call the C library's `bcmp`, which a caller in C
+// may not have.
+fn differ(kept: &Record, drawn: &Record) -> bool
+    ensures { result ≡ not (bytes_eq kept.now drawn.now) }
+{
+    let mut differ = false;
+    for at in 0..records::RECORD_BYTES {
+        differ |= kept[at] != drawn[at];
+    }
+    differ
+}
+
 // Puts a record that was drawn in the place of the one that was kept, and says whether they differed. Most records
 // come out as they were, and are not written.
 fn replace(kept: &mut Record, drawn: &Record) -> bool
     ensures value { result ≡ not (bytes_eq kept.old drawn.now) }
     ensures kept_after { kept.new ≡ drawn.now }
 {
-    if &*kept == drawn {
+    if !differ(kept, drawn) {
         return false;
     }
-    *kept = *drawn;
+    kept.copy_from_slice(drawn);
     true
 }
 

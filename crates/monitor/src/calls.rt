@@ -1,6 +1,6 @@
 // The calls of the library that no viewer is told of, each with the memories that it is lent.
 use crate::desk::Desk;
-use crate::say;
+use crate::say::{self, Hex};
 use lent::{ByteRead, Refusal};
 use machine::Written;
 use std::io;
@@ -9,10 +9,11 @@ use std::io;
 fn say_read(rt: &HostRuntime, outcome: Result<u8, Refusal>) -> io::Result<()> {
     let told = ByteRead::from(outcome);
     match outcome {
-        Ok(_) => println!(rt; "reads {:02X}", told.byte),
+        Ok(_) => println!(rt; "reads {}", Hex([told.byte])),
         Err(refusal) => println!(rt;
-            "refused {}, byte {:02X}: {refusal}",
-            told.refusal, told.byte
+            "refused {}, byte {}: {refusal}",
+            told.refusal,
+            Hex([told.byte])
         ),
     }
 }
@@ -82,9 +83,11 @@ pub fn tick(rt: &HostRuntime, desk: &mut Desk) -> io::Result<()> {
 
 // So many ticks of the watchdog's clock.
 pub fn watch(rt: &HostRuntime, desk: &mut Desk, ticks: usize) -> io::Result<()> {
+    let mut watched = desk.machine;
     for _ in 0..ticks {
-        desk.machine = desk.machine.watchdog_tick();
+        watched = watched.watchdog_tick();
     }
+    desk.machine = watched;
     say::machine(rt, "watched", desk.machine)
 }
 

@@ -28,7 +28,7 @@ pub const LINES_BYTES: usize = lent::LIST_BYTES + 1;
 pub const INDEX_BYTES: usize = lent::INDEX_BYTES + 1;
 
 // A memory, and how many bytes of it are lent.
-#[derive(Drop)]
+#[derive(Clone, Copy)]
 pub struct Memory<const N: usize> {
     pub bytes: [u8; N],
     lent: usize,
@@ -61,7 +61,7 @@ impl<const N: usize> Memory<N> {
 }
 
 // The memories in the order of document 01's list and then 02's.
-#[derive(Drop)]
+#[derive(Clone, Copy)]
 pub struct Desk {
     pub machine: Machine,
     pub viewers: Viewers,

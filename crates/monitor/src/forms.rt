@@ -46,8 +46,11 @@ pub enum Form {
     Strew,
 }
 
+// A form too many or too few in the table below does not compile.
+const FORM_COUNT: usize = Form::Strew as usize + 1;
+
 // Each form beside its words, in the order that help shows.
-const FORMS: [(Form, &str); 37] = [
+const FORMS: [(Form, &str); FORM_COUNT] = [
     (Form::Store, "store HHHHHHHH HH"),
     (Form::Blind, "blind HHHHHHHH HH"),
     (Form::Read, "read HHHHHHHH"),
@@ -103,7 +106,7 @@ pub enum Name {
 }
 
 // The memories beside their names.
-const NAMES: [(Name, &str); 11] = [
+const NAMES: [(Name, &str); Name::Index as usize + 1] = [
     (Name::Shared, "shared"),
     (Name::Private, "private"),
     (Name::Screen, "screen"),
@@ -117,14 +120,19 @@ const NAMES: [(Name, &str); 11] = [
     (Name::Index, "index"),
 ];
 
-fn form_texts() -> [&'static [u8]; 37] {
+fn form_texts() -> [&'static [u8]; FORM_COUNT] {
     FORMS.map(|(_, text)| text.as_bytes())
 }
 
-// The form that a line has, with its numbers. One that is too long has none.
+// The form that a line has, with its numbers. One that is too long has none, and one with no words has none either,
+// which is seen before the forms are gone through.
 pub fn parse(line: &[u8]) -> Option<(Form, Command)> {
+    let line = input::unless_long(line);
+    if !commands::has_words(line) {
+        return None;
+    }
     let names = NAMES.map(|(_, name)| name.as_bytes());
-    let command = commands::parse(&form_texts(), &names, input::unless_long(line))?;
+    let command = commands::parse(&form_texts(), &names, line)?;
     let (form, _) = FORMS.get(command.form)?;
     Some((*form, command))
 }
@@ -135,10 +143,16 @@ pub fn named(number: usize) -> Option<Name> {
     Some(*name)
 }
 
+// A form's text. Each is UTF-8, as the table has it.
+fn text_of(texts: &[&'static [u8]], form: usize) -> &'static str {
+    std::str::from_utf8(commands::form_text(texts, form)).unwrap_or("")
+}
+
 // Shows every form.
 pub fn help(rt: &HostRuntime) -> io::Result<()> {
-    for (_, text) in FORMS {
-        println!(rt; "  {text}")?;
+    let texts = form_texts();
+    for form in 0..commands::form_count(&texts) {
+        println!(rt; "  {}", text_of(&texts, form))?;
     }
     println!(rt;
         "H is a hexadecimal digit, D a decimal one, and fewer will do; NAME is one of shared private \
@@ -164,9 +178,9 @@ pub fn no_form(rt: &HostRuntime, line: &[u8]) -> io::Result<()> {
 fn expected(rt: &HostRuntime, line: &[u8]) -> io::Result<()> {
     let texts = form_texts();
     let mut meant = false;
-    for (form, (_, text)) in FORMS.iter().enumerate() {
+    for form in 0..commands::form_count(&texts) {
         if commands::is_meant(&texts, form, line) {
-            println!(rt; "expected {text}")?;
+            println!(rt; "expected {}", text_of(&texts, form))?;
             meant = true;
         }
     }

@@ -1,7 +1,8 @@
 // What is done to the memories and the machine by hand, between the calls.
 use crate::desk::{Desk, Memory};
 use crate::forms::{self, Name};
-use crate::{say, strewn};
+use crate::say::{self, Hex};
+use crate::strewn;
 use std::io;
 
 // What a line does to the memory that it names, or shows of it.
@@ -91,22 +92,26 @@ pub fn to_memory(
     }
 }
 
+fn sum(memory: &[u8]) -> Hex<4> {
+    Hex(strewn::sum(memory).to_be_bytes())
+}
+
 // Shows a sum of each memory, so that a change of any byte of one shows.
 pub fn sums(rt: &HostRuntime, desk: &Desk) -> io::Result<()> {
     println!(rt;
-        "sums: shared {:08X} private {:08X} screen {:08X} attribute {:08X} glyphs {:08X} nvm {:08X} \
-         shadow {:08X} picture {:08X} line {:08X} lines {:08X} index {:08X}",
-        strewn::sum(&desk.shared.bytes),
-        strewn::sum(&desk.private.bytes),
-        strewn::sum(&desk.screen.bytes),
-        strewn::sum(&desk.attribute.bytes),
-        strewn::sum(&desk.glyphs.bytes),
-        strewn::sum(&desk.nvm.bytes),
-        strewn::sum(&desk.shadow.bytes),
-        strewn::sum(&desk.picture.bytes),
-        strewn::sum(&desk.line.bytes),
-        strewn::sum(&desk.lines.bytes),
-        strewn::sum(&desk.index.bytes)
+        "sums: shared {} private {} screen {} attribute {} glyphs {} nvm {} \
+         shadow {} picture {} line {} lines {} index {}",
+        sum(&desk.shared.bytes),
+        sum(&desk.private.bytes),
+        sum(&desk.screen.bytes),
+        sum(&desk.attribute.bytes),
+        sum(&desk.glyphs.bytes),
+        sum(&desk.nvm.bytes),
+        sum(&desk.shadow.bytes),
+        sum(&desk.picture.bytes),
+        sum(&desk.line.bytes),
+        sum(&desk.lines.bytes),
+        sum(&desk.index.bytes)
     )
 }
 

@@ -18,6 +18,7 @@ mod why;
 use desk::Desk;
 use forms::Form;
 use hand::ByHand;
+use std::fs::File;
 use std::io;
 use std::io::Read;
 
@@ -26,12 +27,15 @@ fn main(rt: HostRuntime) -> io::Result<()> {
     if !console::has_argument(&rt, 1) {
         return take(&rt, &mut desk, &mut rt.stdin(), false);
     }
+    // A file stays open until the next one is: a pipe that is named twice has a reader all the time.
+    let mut file: Option<File> = None;
     for argument in 1..usize::MAX {
         if !console::has_argument(&rt, argument) {
             break;
         }
-        if let Some(mut file) = input::opened(&rt, argument)? {
-            take(&rt, &mut desk, &mut file, true)?;
+        file = input::opened(&rt, argument)?;
+        if let Some(file) = &mut file {
+            take(&rt, &mut desk, file, true)?;
         }
     }
     Ok(())

@@ -1,5 +1,6 @@
 // What the kept picture says, row by row, and what the row lister does.
 use crate::desk::Desk;
+use crate::say::Hex;
 use records::{DARK, HEAD_BYTES, RECORD_BYTES, RECORD_PAIRS, TORN};
 use std::io;
 
@@ -9,10 +10,12 @@ pub fn list(rt: &HostRuntime, picture: &[u8]) -> io::Result<()> {
         match record {
             [_, _, _, DARK, ..] => {}
             [high, low, kind, TORN, ..] => {
-                println!(rt; "row {row} start {high:02X}{low:02X} kind {kind} torn")?;
+                let start = Hex([*high, *low]);
+                println!(rt; "row {row} start {start} kind {kind} torn")?;
             }
             [high, low, kind, count, ..] => {
-                println!(rt; "row {row} start {high:02X}{low:02X} kind {kind} cells {count}")?;
+                let start = Hex([*high, *low]);
+                println!(rt; "row {row} start {start} kind {kind} cells {count}")?;
             }
             _ => {}
         }

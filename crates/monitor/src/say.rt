@@ -1,7 +1,22 @@
 // What several answers of the monitor have in common.
 use lent::Refusal;
 use machine::Machine;
-use std::io;
+use std::{fmt, io};
+
+// Bytes as two hexadecimal digits each. A number is given as its bytes, the highest first.
+#[derive(Clone, Copy)]
+pub struct Hex<const N: usize>(pub [u8; N]);
+
+impl<const N: usize> fmt::Display for Hex<N> {
+    fn fmt<W: fmt::Write>(&self, f: &mut fmt::Formatter<W>) -> fmt::Result {
+        for byte in self.0 {
+            let high = char::from(ascii::digit(byte / 16));
+            let low = char::from(ascii::digit(byte % 16));
+            write!(f, "{high}{low}")?;
+        }
+        Ok(())
+    }
+}
 
 // Writes bytes as they are, and ends the line.
 pub fn line(rt: &HostRuntime, bytes: &[u8]) -> io::Result<()> {
@@ -13,7 +28,7 @@ pub fn line(rt: &HostRuntime, bytes: &[u8]) -> io::Result<()> {
 pub fn bytes(rt: &HostRuntime, words: &str, list: &[u8]) -> io::Result<()> {
     print!(rt; "{words}")?;
     for byte in list {
-        print!(rt; " {byte:02X}")?;
+        print!(rt; " {}", Hex([*byte]))?;
     }
     println!(rt)
 }
@@ -43,20 +58,20 @@ pub fn done(rt: &HostRuntime, words: &str, outcome: Result<(), Refusal>) -> io::
 pub fn machine(rt: &HostRuntime, words: &str, machine: Machine) -> io::Result<()> {
     let hertz = if machine.hertz50 { 50 } else { 60 };
     print!(rt;
-        "{words}: {} columns, {hertz} Hz, interlace {}, latch {:02X}, blink {}, interrupt {}, reverse {}",
+        "{words}: {} columns, {hertz} Hz, interlace {}, latch {}, blink {}, interrupt {}, reverse {}",
         machine.columns(),
         u8::from(machine.interlace),
-        machine.latch,
+        Hex([machine.latch]),
         u8::from(machine.blink),
         u8::from(machine.interrupt),
         u8::from(machine.reverse)
     )?;
     println!(rt;
-        ", watchdog {}, count {}, reset {}, 0A holds {:02X}, z80 runs {}, blanked {}, graphics {}",
+        ", watchdog {}, count {}, reset {}, 0A holds {}, z80 runs {}, blanked {}, graphics {}",
         u8::from(machine.watchdog),
         machine.count,
         u8::from(machine.reset),
-        machine.held,
+        Hex([machine.held]),
         u8::from(machine.z80_runs()),
         u8::from(machine.blanked()),
         u8::from(machine.graphics())

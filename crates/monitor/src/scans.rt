@@ -1,6 +1,6 @@
 // The scan line and the glyph part, shown.
 use crate::desk::Desk;
-use crate::say;
+use crate::say::{self, Hex};
 use std::io;
 
 pub fn is_marked(rt: &HostRuntime, marks: u32, row: usize) -> io::Result<()> {
@@ -33,7 +33,10 @@ pub fn draw_line(rt: &HostRuntime, desk: &mut Desk, row: usize, scan: usize) -> 
     );
     match outcome {
         Ok(()) => {
-            let text = desk.line.bytes.map(shown);
+            let mut text = desk.line.bytes;
+            for dot in &mut text {
+                *dot = shown(*dot);
+            }
             say::line(rt, &text[..scan_line::dots_of_line(desk.machine)])
         }
         Err(refusal) => say::refused(rt, refusal),
@@ -52,5 +55,5 @@ pub fn count(rt: &HostRuntime, desk: &Desk) -> io::Result<()> {
 }
 
 pub fn scroll(rt: &HostRuntime, desk: &Desk) -> io::Result<()> {
-    println!(rt; "scroll latch: {:02X}", desk.machine.scroll_latch())
+    println!(rt; "scroll latch: {}", Hex([desk.machine.scroll_latch()]))
 }

@@ -8,13 +8,13 @@ fn next(seed: u32) -> u32 {
 
 // One in so many bytes is FF, and the others are under a number.
 fn strewn(a: u32, b: u32, every: usize, under: usize) -> u8 {
-    let one_of = (a as usize / 65536).checked_rem(every);
-    let other = (b as usize / 65536).checked_rem(under);
-    match (one_of, other) {
-        (None, _) => 0,
-        (Some(0), _) => 0xFF,
-        (_, None) => 0,
-        (_, Some(byte)) => (byte % 256) as u8,
+    match (a as usize / 65536).checked_rem(every) {
+        None => 0,
+        Some(0) => 0xFF,
+        Some(_) => match (b as usize / 65536).checked_rem(under) {
+            None => 0,
+            Some(byte) => (byte % 256) as u8,
+        },
     }
 }
 

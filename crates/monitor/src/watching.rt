@@ -1,6 +1,6 @@
 // The calls that serve viewers: the stores and the drawing, which keep the picture and the viewers both, and the ask.
 use crate::desk::Desk;
-use crate::say;
+use crate::say::{self, Hex};
 use lent::Refusal;
 use mending::Stored;
 use picture::Drawn;
@@ -18,9 +18,10 @@ fn say_marks(
     refused: Option<Refusal>,
     told: Stored,
 ) -> io::Result<()> {
+    let marks = Hex(told.marks.to_be_bytes());
     match refused {
-        Some(_) => print!(rt; "refused {}, marks {:08X}", told.refusal, told.marks)?,
-        None => print!(rt; "{words}, marks {:08X}", told.marks)?,
+        Some(_) => print!(rt; "refused {}, marks {marks}", told.refusal)?,
+        None => print!(rt; "{words}, marks {marks}")?,
     }
     for row in 0..MARK_BITS {
         if marks::is_marked(told.marks, row) {
@@ -111,7 +112,7 @@ pub fn draw(rt: &HostRuntime, desk: &mut Desk) -> io::Result<()> {
 pub fn say_waiting(rt: &HostRuntime, words: &str, viewers: Viewers) -> io::Result<()> {
     print!(rt; "{words}")?;
     for marks in viewers.waiting {
-        print!(rt; " {marks:08X}")?;
+        print!(rt; " {}", Hex(marks.to_be_bytes()))?;
     }
     println!(rt)
 }

@@ -1,24 +1,25 @@
 // Why a cell shows what it shows, as one line: in words, and as the numbers that a program in C is handed.
 use crate::desk::Desk;
-use crate::say;
+use crate::say::{self, Hex};
 use explaining::{Explained, Why};
 use std::io;
 
 fn say_led(rt: &HostRuntime, led: Option<u16>) -> io::Result<()> {
     match led {
         None => print!(rt; ", row 0"),
-        Some(place) => print!(rt; ", link at {place:04X}"),
+        Some(place) => print!(rt; ", link at {}", Hex(place.to_be_bytes())),
     }
 }
 
 fn say_why(rt: &HostRuntime, why: Why) -> io::Result<()> {
     match why {
         Why::Cell { place, kind, led } => {
-            print!(rt; "cell, place {place:04X}, kind {kind}")?;
+            let place = Hex(place.to_be_bytes());
+            print!(rt; "cell, place {place}, kind {kind}")?;
             say_led(rt, led)
         }
         Why::Fill { place, led } => {
-            print!(rt; "fill, place {place:04X}")?;
+            print!(rt; "fill, place {}", Hex(place.to_be_bytes()))?;
             say_led(rt, led)
         }
         Why::Past(led) => {
@@ -39,13 +40,13 @@ pub fn explain(rt: &HostRuntime, desk: &Desk, row: usize, column: usize) -> io::
         Err(_) => print!(rt; "refused {}", told.refusal)?,
     }
     print!(rt;
-        ", as numbers {} {:04X} {} {} {} {:04X}",
+        ", as numbers {} {} {} {} {} {}",
         told.answer,
-        told.place,
+        Hex(told.place.to_be_bytes()),
         told.kind,
         told.tore,
         u8::from(told.linked),
-        told.link
+        Hex(told.link.to_be_bytes())
     )?;
     say::end(rt, outcome.err())
 }

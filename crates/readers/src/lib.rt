@@ -55,7 +55,9 @@ fn torn_reads(seen: Seen, start: Place, capacity: usize) -> bool
     }
 }
 
-// The first row that reads a byte, by the walk of memory as it is, if there is one.
+// The first row that reads a byte, by the walk of memory as it is, if there is one. A part of the store that asks for
+// it, as the kit's compiler has no other way to see that a byte of shared memory needs no walk.
+#[inline(always)]
 pub fn first_reader(page: &Page, seen: Seen) -> Option<Reader>
     requires { InMemory seen }
     ensures { result ≡ found (chain_on page.now) (Some seen) }

@@ -1,3 +1,4 @@
+pub mod Laws
 pub mod Filled
 pub mod Pairs
 pub mod Rows

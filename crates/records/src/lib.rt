@@ -56,7 +56,9 @@ fn unlinked(head: Head, cells: usize, count: u8, reads: usize) -> RowRead
     }
 }
 
-// Reads the row that lies ahead: up to its terminator, after which the link leads on, or up to its capacity.
+// Reads the row that lies ahead: up to its terminator, after which the link leads on, or up to its capacity. A part of
+// the loops over rows: handed on by a call, what was read goes through memory.
+#[inline(always)]
 #[tactic(auto, unfolding(chain::specs::Reading::reads, chain::specs::Wild::wild, chain::specs::Chain::row_from))]
 pub fn read_ahead(page: &Page, ahead: Option<Head>) -> RowRead
     ensures value { result ≡ row_read (chain_on page.now) ahead }

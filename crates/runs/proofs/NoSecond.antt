@@ -45,7 +45,7 @@ use Rattle.viewers.proofs.Viewers.ask.Reads as ask
 use Rattle.viewers.proofs.draw_for_viewers.Reads as draw_for_viewers
 use Rattle.viewers.proofs.store_for_viewers.Reads as store_for_viewers
 use Rattle.viewers.proofs.store_with_index_for_viewers.Reads as store_with_index_for_viewers
-use Rattle.glyphs.specs.Glyphs.{told_part}
+use Rattle.glyphs.specs.Glyphs.{PartAnswer, told_part}
 use Rattle.glyphs.proofs.part.Reads as part
 use Rattle.scan_line.specs.Call.{DrawnLine, drawn_line}
 use Rattle.scan_line.proofs.dots_of_line.Reads as dots_of_line
@@ -53,6 +53,7 @@ use Rattle.scan_line.proofs.draw.Reads as draw_line
 use Rattle.whole_screen.specs.Call.{Listed, listed as listed_lines}
 use Rattle.whole_screen.proofs.list_lines.Reads as list_lines
 use Rattle.explaining.proofs.explain.Reads as explain
+use Rattle.explaining.proofs.ExplainedFromResultWhyRefusal.from.Reads as tell
 use Rattle.sentences.proofs.say.Reads as say
 use Rattle.commands.proofs.parse.Reads as parse
 use Rattle.commands.proofs.has_words.Reads as has_words
@@ -213,6 +214,10 @@ store_with_index_for_viewers_once κs a one two p q =
 pub part_once : Once part.Post (λ κs r s. told_part r)
 part_once κs a one two = no_second
 
+-- and of its number of refusal
+pub part_refusal_once : Once part.Post (λ κs r s. (told_part r).refusal)
+part_refusal_once κs a one two p q = ap (λ (out : PartAnswer). out.refusal) (no_second p q)
+
 pub draw_line_once : Once draw_line.Post (λ κs r s. left r (s.1.1.1.1.1.0.now ∷ []))
 draw_line_once κs a one two p q =
     both (λ (out : DrawnLine). out.refusal) (λ out. out.line ∷ []) number_alone (no_second p q)
@@ -223,6 +228,10 @@ list_lines_once κs a one two p q =
 
 pub explain_once : AnswersOnce explain.Post
 explain_once κs a one two p q = answer_alone (no_second p q)
+
+-- as numbers
+pub tell_once : AnswersOnce tell.Post
+tell_once κs a one two = no_second
 
 -- that they fit a line follows from the first clause
 pub dots_of_line_once : AnswersOnce dots_of_line.Post

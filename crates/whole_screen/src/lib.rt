@@ -41,9 +41,7 @@ fn row_scrolls(picture: &Picture, row: usize) -> bool
     picture[row * records::RECORD_BYTES + records::KIND_AT] % 8 / 4 == 1
 }
 
-// The first run of rows that scroll, if there is one. A call of its own: of loops among what follows them a compiler
-// makes longer ones.
-#[inline(never)]
+// The first run of rows that scroll, if there is one.
 fn first_run(picture: &Picture) -> Option<Run>
     ensures { result ≡ run_of (kinds_in picture.now) }
 {
@@ -61,12 +59,15 @@ fn all_lines() -> &'static Lines
 }
 
 // Fills a part of the list. All rows in full have ten lines each, numbered from the top; the part's lines are those
-// from one number on.
+// from one number on. A part of no lines is not copied: to copy no bytes is a call too.
 fn put_lines(from: usize, part: &mut [u8])
     requires even { length part.old % 2 ≡ 0 }
     requires among { from + length part.old / 2 ≤ lines_of_rows }
     ensures { part.new ≡ lines_from from (length part.old / 2) }
 {
+    if part.is_empty() {
+        return;
+    }
     let all = all_lines();
     let at = 2 * from;
     part.copy_from_slice(&all[at..at + part.len()]);

@@ -98,7 +98,7 @@ impl<'a> Code<'a> {
             Err(_) => return Vec::new(),
         };
         let least = u64::from(at > 0 && self.is_step(at - 1));
-        let mut numbers = vec![number + 1];
+        let mut numbers = vec![number.wrapping_add(1)];
         numbers.extend(number.checked_sub(1).filter(|less| *less >= least));
         let shown = |n: u64| {
             if hex {

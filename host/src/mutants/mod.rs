@@ -65,3 +65,30 @@ pub fn of_file(crate_name: &str, file: &str, text: &str) -> Vec<Mutant> {
     }
     mutants
 }
+
+#[cfg(test)]
+mod tests {
+    use super::*;
+    use crate::rattle::tree::files_of;
+    use std::fs;
+    use std::path::Path;
+
+    /// The lines of each rule stand in the code, each once, and the mutants that are equivalent are mutants of it.
+    #[test]
+    fn the_lists_fit_the_code() {
+        let root = Path::new(env!("CARGO_MANIFEST_DIR")).join("..");
+        let read = |name: &str| fs::read_to_string(root.join(name)).unwrap();
+        rules::read(&root, &read("host/mutants/rules.txt")).unwrap();
+        let reasons = equivalent::Reasons::read(&read("host/mutants/equivalent.txt")).unwrap();
+        let crates: Vec<String> = fs::read_dir(root.join("crates"))
+            .unwrap()
+            .map(|entry| entry.unwrap().file_name().into_string().unwrap())
+            .collect();
+        let mutants: Vec<Mutant> = crates
+            .iter()
+            .flat_map(|name| files_of(&root, name).unwrap())
+            .flat_map(|file| of_file("", &file, &read(&file)))
+            .collect();
+        assert_eq!(reasons.of_none(&crates, &mutants), [""; 0]);
+    }
+}

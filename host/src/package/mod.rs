@@ -4,6 +4,7 @@ pub mod module;
 pub mod prototypes;
 pub mod same;
 
+use crate::rattle::code;
 use crate::rattle::kit::{self, is_kit};
 use crate::rattle::tree::{files_of, Crate, Tree};
 use std::collections::BTreeMap;
@@ -22,10 +23,12 @@ const OF_PROGRAMS: [&str; 2] = ["ascii", "commands"];
 
 /// Functions that are made a part of the loops in other crates that call them. The kit's compiler does so by itself;
 /// rustc, whose tests of indexes make them larger, has to be told.
-const IN_LOOPS: [(&str, &[&str]); 2] = [
-    ("chain", &["first_terminator"]),
-    ("records", &["read_ahead", "draw_row", "draw_cells"]),
-];
+const IN_LOOPS: [(&str, &[&str]); 1] = [("records", &["draw_row", "draw_cells"])];
+
+/// The file by which slices are taken as arrays also where Rust has not that of itself, and what a module that does it is
+/// told.
+const ARRAYS_FILE: &str = "src/arrays.rs";
+const USES_ARRAYS: &str = "#[allow(unused_imports)]\nuse crate::arrays::Arrays as _;";
 
 /// The crate with the names of C, and the file that C calls.
 const C_NAMES: &str = "rainbow";
@@ -66,10 +69,14 @@ fn place(one: &Crate, file: &str, alone: bool) -> PathBuf {
     })
 }
 
-/// What a file of a library is told: the modules that it names.
+/// What a file of a library is told: the modules that it names, and how it takes slices as arrays.
 fn library_uses(one: &Crate, text: &str) -> Vec<String> {
     let names = module::named(text, &one.needs);
-    use_line("crate", names).into_iter().collect()
+    let mut lines: Vec<String> = use_line("crate", names).into_iter().collect();
+    if kit::takes_arrays(&code::words(text)) {
+        lines.push(USES_ARRAYS.to_string());
+    }
+    lines
 }
 
 /// What a file of a program is told: the library, and what stands for the kit's, which its first file declares.
@@ -140,7 +147,7 @@ fn modules(tree: &Tree) -> String {
     names.retain(|name| *name != C_NAMES);
     names.sort_unstable();
     let mut lines = format!(
-        "#[cfg(rainbow_c)]\n#[allow(unsafe_code)]\nmod c;\n#[cfg(rainbow_c)]\nmod {C_NAMES};\n\n"
+        "mod arrays;\n#[cfg(rainbow_c)]\n#[allow(unsafe_code)]\nmod c;\n#[cfg(rainbow_c)]\nmod {C_NAMES};\n\n"
     );
     for name in names {
         let how = match name {
@@ -241,6 +248,7 @@ fn files(root: &Path) -> io::Result<Files> {
             by_hand(text.to_string()),
         );
     }
+    files.insert(ARRAYS_FILE.into(), by_hand(kit::ARRAYS.to_string()));
     let (c_file, prototypes) = for_c(root, &tree)?;
     files.insert(C_FILE.into(), by_hand(c_file));
     files.insert(PROTOTYPES.into(), by_hand(prototypes));

@@ -3,6 +3,7 @@
 //! that values which are copied are also compared and shown, and which functions are parts of the loops that call them.
 use crate::rattle::code::{self, Token};
 use crate::rattle::kit;
+use std::ops::Range;
 
 /// The text of a module. `own` is the module that a library's crate becomes, which the file names `crate`; `uses` are the
 /// lines that name other modules, `in_loops` the functions that become parts of the loops that call them.
@@ -16,14 +17,13 @@ pub fn module(text: &str, own: Option<&str>, uses: &[String], in_loops: &[&str])
         uses_at: 0,
     };
     let lines = code::lines(text);
-    for (at, line) in lines.iter().enumerate() {
+    for (line, narrow) in lines.iter().zip(narrow(&lines)) {
         if line.ghost {
             if line.text.ends_with("};") {
                 writer.close();
             }
             continue;
         }
-        let narrow = needs_its_caller(&lines[at..]);
         writer.line(line.text, narrow);
     }
     if let Some(own) = own {
@@ -90,6 +90,79 @@ fn needs_its_caller(lines: &[code::Line]) -> bool {
             .iter()
             .take_while(head)
             .any(|line| line.ghost && code::is_clause(line.text.trim_start(), "requires"))
+}
+
+/// The lines in the braces that a line opens.
+fn braces(lines: &[code::Line], at: usize) -> Range<usize> {
+    let close = format!("{}}}", indent(lines[at].text));
+    let inside = lines[at + 1..].iter().take_while(|line| line.text != close);
+    match lines[at].text.ends_with('{') {
+        true => at + 1..at + 1 + inside.count(),
+        false => at..at,
+    }
+}
+
+/// The name that a text begins with.
+fn named_first(text: &str) -> &str {
+    let end = text.find(|c: char| !c.is_alphanumeric() && c != '_');
+    &text[..end.unwrap_or(text.len())]
+}
+
+/// What a line declares by a word.
+fn declares<'a>(line: &'a str, word: &str) -> Option<&'a str> {
+    let line = line.trim_start();
+    let line = line.strip_prefix("pub ").unwrap_or(line);
+    line.strip_prefix(word)?.strip_prefix(' ').map(named_first)
+}
+
+fn is_ghost(line: &code::Line, of: &str) -> bool {
+    let text = line.text.trim_start();
+    let text = text.strip_prefix("pub ").unwrap_or(text);
+    text.strip_prefix("ghost ")
+        .is_some_and(|text| text.starts_with(of))
+}
+
+/// Whether the model of a type has an invariant.
+fn has_invariant(lines: &[code::Line], name: &str) -> bool {
+    let is_model = |line: &code::Line| {
+        let model = line.text.split_once(" Model for ");
+        model.is_some_and(|(_, of)| named_first(of) == name)
+    };
+    let mut models = (0..lines.len()).filter(|at| is_model(&lines[*at]));
+    models.any(|at| {
+        let mut model = lines[braces(lines, at)].iter();
+        model.any(|line| is_ghost(line, "invariant"))
+    })
+}
+
+/// Which lines are public in this crate alone, since what the prover alone reads holds their users to something: a
+/// function with a `requires`, a trait that has one, and the fields of a struct that has a ghost part, or whose model
+/// has an invariant.
+fn narrow(lines: &[code::Line]) -> Vec<bool> {
+    let mut narrow: Vec<bool> = (0..lines.len())
+        .map(|at| needs_its_caller(&lines[at..]))
+        .collect();
+    for (at, line) in lines.iter().enumerate() {
+        let inside = braces(lines, at);
+        if let Some(name) = declares(line.text, "struct") {
+            let has_part = lines[inside.clone()].iter().any(|line| is_ghost(line, ""));
+            if has_part || has_invariant(lines, name) {
+                narrow[inside].fill(true);
+            }
+        } else if declares(line.text, "trait").is_some() {
+            let asks = |line: &code::Line| code::is_clause(line.text.trim_start(), "requires");
+            narrow[at] = lines[inside].iter().any(|line| line.ghost && asks(line));
+        }
+    }
+    narrow
+}
+
+/// A line that says `pub`, of this crate alone.
+fn in_crate(line: &str) -> String {
+    match line.trim_start().strip_prefix("pub ") {
+        Some(rest) => format!("{}pub(crate) {rest}", indent(line)),
+        None => line.to_string(),
+    }
 }
 
 fn is_function(line: &str) -> bool {
@@ -178,12 +251,12 @@ impl<'a> Writer<'a> {
             return;
         }
         let mut text = code::line_of_rust(line).replacen("pub extern \"C\" fn", "pub fn", 1);
+        if narrow {
+            text = in_crate(&text);
+        }
         if is_function(line) {
             if self.in_loops.contains(&name(line)) {
                 self.out.push("#[inline(always)]".to_string());
-            }
-            if narrow {
-                text = text.replacen("pub fn", "pub(crate) fn", 1);
             }
             self.place = match line.chars().last() {
                 Some(';') => Place::Outside,
@@ -234,12 +307,7 @@ pub fn named<'a>(text: &str, needs: &'a [String]) -> Vec<&'a str> {
 
 /// What the code of a file names of the kit's std that Rust has from console.
 pub fn of_console(text: &str) -> Vec<&str> {
-    let tokens = code::tokens(text);
-    let words: Vec<&str> = tokens
-        .iter()
-        .map(|token| &text[token.span.clone()])
-        .collect();
-    kit::names(&words)
+    kit::names(&code::words(text))
 }
 
 #[cfg(test)]
@@ -349,12 +417,61 @@ trait Change {
         let file = "// A part.\npub trait Change {\n    ghost done: { ℕ };\n\n    fn of(self, all: &[u8; 2]) -> u8\n        \
                     requires { 1 }\n        ensures { result\n            ≡ 1 };\n\n    fn other(self);\n}\n\nstruct A {\n    \
                     a: u8,\n}\n";
-        let wanted = "//! A part.\npub trait Change {\n    fn of(self, all: &[u8; 2]) -> u8;\n\n    fn other(self);\n}\n\n\
+        let wanted = "//! A part.\npub(crate) trait Change {\n    fn of(self, all: &[u8; 2]) -> u8;\n\n    fn other(self);\n}\n\n\
                       struct A {\n    a: u8,\n}\n";
         assert_eq!(module(file, None, &[], &[]), wanted);
         assert!(super::super::same::compare(file, wanted, None).is_ok());
         let other = wanted.replacen("a: u8,\n", "a: u8,\n    b: u8,\n", 1);
         assert!(super::super::same::compare(file, &other, None).is_err());
+    }
+
+    #[test]
+    fn fields_that_have_to_fit() {
+        let file = "\
+// A part.
+pub struct Page<'a> {
+    // At most 132.
+    pub columns: usize,
+    screen: &'a [u8],
+    pub ghost few: { columns ≤ 132 },
+}
+
+pub struct Place {
+    pub at: u16,
+}
+
+pub struct Places {
+    pub at: u16,
+}
+
+impl<const N: usize> Model for Place<N> {
+    ghost Value = { ℕ };
+
+    ghost invariant = { λ place. place.at < 3 };
+}
+
+impl Model for Places {
+    ghost Value = { ℕ };
+}
+";
+        let wanted = "\
+//! A part.
+pub struct Page<'a> {
+    /// At most 132.
+    pub(crate) columns: usize,
+    screen: &'a [u8],
+}
+
+pub struct Place {
+    pub(crate) at: u16,
+}
+
+pub struct Places {
+    pub at: u16,
+}
+";
+        let made = module(file, None, &[], &[]);
+        assert_eq!(made.trim_end(), wanted.trim_end());
     }
 
     #[test]

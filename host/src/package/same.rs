@@ -175,9 +175,16 @@ fn added(made: &[Token], before: Option<&Token>) -> usize {
     0
 }
 
+/// What a file is told that takes a slice as an array.
+const ARRAYS: &str = "#[allow(unused_imports)] use crate::arrays::Arrays as _;";
+
 /// What a file may begin with that its source has not, each with its tokens: the other modules that it names, that it
 /// has no unsafe code, and in a program the modules that stand for the kit's libraries.
 fn added_first(made: &[Token]) -> usize {
+    let arrays = tokens(ARRAYS);
+    if starts(made, &texts(&arrays)) {
+        return arrays.len();
+    }
     if starts(made, &["use", "crate"]) || starts(made, &["use", "rainbow"]) {
         return up_to(made, ";");
     }
@@ -249,7 +256,7 @@ pub fn compare(source: &str, made: &str, own: Option<&str>) -> Result<Compared, 
     let mut furthest = (0, String::new());
     loop {
         match from(&source, &made[begin..]) {
-            Ok(compared) => return Ok(compared),
+            Ok(compared) => return held(&source, &made).map(|()| compared),
             Err((at, why)) if at >= furthest.0 => furthest = (at, why),
             Err(_) => {}
         }
@@ -327,6 +334,105 @@ fn from(source: &[Token], made: &[Token]) -> Result<Compared, (usize, String)> {
         (i, j) = (i + 1, j + 1);
     }
     Ok(compared)
+}
+
+/// A type or a trait that a file declares.
+struct Declared<'t, 'a> {
+    /// Whether `pub` stands before it, with nothing that says for whom.
+    public: bool,
+    word: &'a str,
+    name: &'a str,
+    /// Its brackets, with what is in them.
+    body: &'t [Token<'a>],
+}
+
+impl Declared<'_, '_> {
+    /// Whether only the crate can make a value of the type: it has a field, and none is public.
+    fn is_hidden(&self) -> bool {
+        let rest = |at: usize| &self.body[at + 1..];
+        let is_open = |at: usize| {
+            starts(&self.body[at..], &["pub"]) && !starts(rest(at), &["(", "crate", ")"])
+        };
+        match self.word {
+            "struct" => self.body.len() > 2 && !(0..self.body.len()).any(is_open),
+            _ => false,
+        }
+    }
+
+    fn has_requires(&self) -> bool {
+        let is_requires =
+            |at| starts(&self.body[at..], &["requires"]) && is_clause(&self.body[at..]);
+        (0..self.body.len()).any(is_requires)
+    }
+}
+
+/// What a file declares by these words.
+fn declared<'t, 'a>(tokens: &'t [Token<'a>], words: &[&str]) -> Vec<Declared<'t, 'a>> {
+    let mut all = Vec::new();
+    for (at, pair) in tokens.windows(2).enumerate() {
+        if !words.contains(&pair[0].text) {
+            continue;
+        }
+        let rest = &tokens[at + 2..];
+        let rest = match starts(rest, &["<"]) {
+            true => &rest[block(rest, "<", ">")..],
+            false => rest,
+        };
+        let body = match rest.first().map(|token| token.text) {
+            Some(";") => &rest[..0],
+            Some("(") => &rest[..block(rest, "(", ")")],
+            _ => &rest[up_to(rest, "{").saturating_sub(1)..block(rest, "{", "}")],
+        };
+        all.push(Declared {
+            public: at > 0 && tokens[at - 1].text == "pub",
+            word: pair[0].text,
+            name: pair[1].text,
+            body,
+        });
+    }
+    all
+}
+
+/// The types of which a ghost part says something, or the invariant of a model.
+fn spoken_of<'a>(source: &[Token<'a>]) -> Vec<&'a str> {
+    let types = declared(source, &TYPES);
+    let has_part = |one: &&Declared| one.body.iter().any(|token| token.text == "ghost");
+    let mut names: Vec<&str> = types.iter().filter(has_part).map(|one| one.name).collect();
+    for at in 0..source.len() {
+        let model = &source[at..];
+        if starts(model, &["Model", "for"]) {
+            let model = &model[..block(model, "{", "}")];
+            let mut pairs = model.windows(2);
+            if pairs.any(|pair| starts(pair, &["ghost", "invariant"])) {
+                names.push(model[2].text);
+            }
+        }
+    }
+    names
+}
+
+const TYPES: [&str; 3] = ["struct", "enum", "union"];
+
+/// Whether no user can do what only a part that was left out kept him from: make a value of a type of which it says
+/// something, or call a function of a trait that has a `requires`.
+fn held(source: &[Token], made: &[Token]) -> Result<(), String> {
+    let types = declared(made, &TYPES);
+    for name in spoken_of(source) {
+        let mut there = types.iter().filter(|one| one.name == name).peekable();
+        if there.peek().is_none() || !there.all(Declared::is_hidden) {
+            return Err(format!(
+                "{name} has lost its ghost part, and users can make one"
+            ));
+        }
+    }
+    let traits = declared(made, &["trait"]);
+    let is_open = |name| traits.iter().any(|one| one.public && one.name == name);
+    for one in declared(source, &["trait"]) {
+        if one.has_requires() && is_open(one.name) {
+            return Err(format!("{} is public, and has lost a requires", one.name));
+        }
+    }
+    Ok(())
 }
 
 fn differs(source: Option<&Token>, made: Option<&Token>) -> String {
@@ -463,8 +569,75 @@ pub extern \"C\" fn f(a: u8) -> u8
         );
         assert!(compare(source, &made, Some("chain")).is_ok());
         assert!(compare(source, &made, Some("other")).is_err());
-        let other = made.replacen("    pub kind: u8,\n", "", 1);
+        let other = made.replacen("    pub(crate) kind: u8,\n", "", 1);
         assert!(compare(source, &other, Some("chain")).is_err());
+    }
+
+    #[test]
+    fn a_type_that_has_lost_a_ghost_part_is_made_by_the_crate_alone() {
+        let part = "pub struct Page<'a> {\n    pub columns: usize,\n    screen: &'a [u8],\n    pub ghost few: { columns ≤ \
+                    132 },\n}\n";
+        let model = "pub struct Page<const N: usize> {\n    pub columns: usize,\n}\n\nimpl<const N: usize> Model for \
+                     Page<N> {\n    ghost invariant = { λ page. page.columns ≤ N };\n}\n";
+        for source in [part, model] {
+            let made = module(source, None, &[], &[]);
+            assert!(compare(source, &made, None).is_ok(), "{made}");
+            let open = made.replacen("pub(crate) columns", "pub columns", 1);
+            assert_ne!(open, made);
+            let why = compare(source, &open, None).unwrap_err();
+            assert_eq!(why, "Page has lost its ghost part, and users can make one");
+        }
+        for (source, made) in [
+            // What has no other part, or parts that are always public; and a type of another file.
+            ("pub struct Sign {\n    ghost few: { 1 },\n}\n", "pub struct Sign {\n}\n"),
+            ("pub enum Sign {\n    A { n: u8, ghost few: { n } },\n}\n", "pub enum Sign {\n    A { n: u8, },\n}\n"),
+            ("pub struct Sign(pub u8);\n\nimpl Model for Sign {\n    ghost invariant = { 1 };\n}\n", "pub struct Sign(pub u8);\n"),
+            ("impl Model for Sign {\n    ghost invariant = { 1 };\n}\n", ""),
+        ] {
+            let why = compare(source, made, None).unwrap_err();
+            assert_eq!(why, "Sign has lost its ghost part, and users can make one");
+        }
+        let seen = "pub struct Page {\n    pub columns: usize,\n}\n\nimpl Model for Page {\n    ghost Value = { ℕ };\n}\n";
+        let made = module(seen, None, &[], &[]);
+        assert!(made.contains("    pub columns: usize,") && compare(seen, &made, None).is_ok());
+    }
+
+    #[test]
+    fn a_trait_with_a_requires_is_not_public() {
+        let source =
+            "pub trait Beside {\n    fn note(row: usize)\n        requires { row < 25 };\n}\n";
+        let made = module(source, None, &[], &[]);
+        assert!(compare(source, &made, None).is_ok(), "{made}");
+        let open = made.replacen("pub(crate) trait", "pub trait", 1);
+        let why = compare(source, &open, None).unwrap_err();
+        assert_eq!(why, "Beside is public, and has lost a requires");
+    }
+
+    #[test]
+    fn a_file_that_takes_slices_as_arrays() {
+        let source =
+            "// A part.\nuse lent::Refusal;\n\nfn f(bytes: &[u8]) {\n    g(bytes.as_array())\n}\n";
+        let uses = [
+            "use crate::lent;",
+            "#[allow(unused_imports)]\nuse crate::arrays::Arrays as _;",
+        ];
+        let made = module(source, None, &uses.map(String::from), &[]);
+        assert!(compare(source, &made, None).is_ok(), "{made}");
+        for (old, new) in [
+            ("(unused_imports)", "(unused_imports, dead_code)"),
+            (
+                "#[allow(unused_imports)]\nuse",
+                "#[allow(unused_imports)]\n#[cfg(test)]\nuse",
+            ),
+            (
+                "#[allow(unused_imports)]\nuse crate::arrays::Arrays as _;",
+                "#[allow(unused_imports)]\nuse lent::Other as _;",
+            ),
+        ] {
+            let other = made.replacen(old, new, 1);
+            assert_ne!(other, made, "{old}");
+            assert!(compare(source, &other, None).is_err(), "{old} -> {new}");
+        }
     }
 
     #[test]

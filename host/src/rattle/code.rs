@@ -146,20 +146,25 @@ pub fn lines(text: &str) -> Vec<Line<'_>> {
     lines
 }
 
-/// What a file has to be told of crate console, whose names stand for some of the kit's std.
-fn uses(text: &str) -> String {
+/// The words and signs of a file's code.
+pub fn words(text: &str) -> Vec<&str> {
     let tokens = tokens(text);
-    let words: Vec<&str> = tokens
+    tokens
         .iter()
         .map(|token| &text[token.span.clone()])
-        .collect();
-    match kit::names(&words).join(", ") {
+        .collect()
+}
+
+/// What a file has to be told of crate console, whose names stand for some of the kit's std.
+fn uses(text: &str) -> String {
+    match kit::names(&words(text)).join(", ") {
         names if names.is_empty() => names,
         names => format!("use console::{{{names}}};\n"),
     }
 }
 
-/// The file as Rust: without what the kit alone reads, and with a `main` that takes nothing.
+/// The file as Rust: without what the kit alone reads, with a `main` that takes nothing, and with what takes slices as
+/// arrays where Rust has not that of itself.
 pub fn rust(text: &str) -> String {
     let mut code = uses(text);
     let mut at = 0;
@@ -170,6 +175,9 @@ pub fn rust(text: &str) -> String {
     code.push_str(&text[at..]);
     if code.contains(kit::MAIN) {
         code = code.replacen(kit::MAIN, kit::RENAMED, 1) + kit::CALLER;
+    }
+    if kit::takes_arrays(&words(text)) {
+        code = code + "\n" + kit::ARRAYS;
     }
     let lines = code.lines().filter_map(|line| {
         if line.trim_start().starts_with("#[derive(") {
@@ -321,6 +329,12 @@ impl From<u8> for Kind {
             .into_iter()
             .filter(|token| &text[token.span.clone()] == ",");
         assert_eq!(signs.count(), 1);
+    }
+
+    #[test]
+    fn slices_as_arrays() {
+        let code = rust("fn f(a: &[u8]) -> Option<&[u8; 2]> {\n    a.as_array()\n}\n");
+        assert!(code.ends_with(&format!("    a.as_array()\n}}\n\n{}", kit::ARRAYS)));
     }
 
     #[test]

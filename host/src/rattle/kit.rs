@@ -26,6 +26,15 @@ pub fn names<'a>(words: &[&'a str]) -> Vec<&'a str> {
     names
 }
 
+/// What stands for the functions of slices that Rust has from 1.93 on, where it is older.
+pub const ARRAYS: &str = include_str!("../../package/arrays.rs");
+
+/// Whether the code of a file takes a slice as an array.
+pub fn takes_arrays(words: &[&str]) -> bool {
+    let is_call = |pair: &[&str]| pair[0] == "." && matches!(pair[1], "as_array" | "as_mut_array");
+    words.windows(2).any(is_call)
+}
+
 /// How a program's `main` begins, which takes the handle. Rust's takes nothing, so it gets another name there, and
 /// another `main` calls it.
 pub const MAIN: &str = "fn main(rt: HostRuntime)";
@@ -54,5 +63,11 @@ mod tests {
             "!",
         ];
         assert_eq!(names(&words), ["HostRuntime", "println"]);
+    }
+
+    #[test]
+    fn slices_as_arrays() {
+        assert!(takes_arrays(&["a", ".", "as_mut_array", "(", ")"]));
+        assert!(!takes_arrays(&["as_array", "(", "a", ")"]));
     }
 }

@@ -20,4 +20,5 @@ pub returns : goal.returns
 returns t c =
     let last : c.args.row - 1 + 1 ≡ c.args.row = omega arith in
     let more : c.args.row - 1 < rows = omega arith in
-    c.follow.ensures ∙ reached_after _ (c.args.row - 1) more _ (sym c.in_ok-before.ensures) ∙ ap (reached (chain_on c.args.page.now)) last
+    rw (c.ok_or.ensures.value, c.follow.ensures)
+    (reached_after _ (c.args.row - 1) more _ (sym c.in_ok-before.ensures) ∙ ap (reached (chain_on c.args.page.now)) last)

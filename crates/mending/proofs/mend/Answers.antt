@@ -39,7 +39,7 @@ loop-row-preserved g c =
     record {
       picture_mended =
           mend_goes_on k _ _ c.args.page.now.few c.requires.room inv.picture_mended
-          c.loop-row-test.true (drawn_as_read _ c.loop-row.ahead read c.draw_row.ensures)
+          (omega (arith, c.loop-row-test.true)) (drawn_as_read _ c.loop-row.ahead read c.draw_row.ensures)
           c.draw_row.array_long (rw read)
           (c.replace_part-changed.ensures.value, c.replace_part-changed.ensures.part_after) c.mark-marks.ensures;
       rows_noted =
@@ -48,10 +48,10 @@ loop-row-preserved g c =
     }
 
 pub returns-clause-marks : goal.returns-clause-marks
-returns-clause-marks g c = (mend_ends c.loop-row.invariant.picture_mended c.loop-row-test.false (omega arith)).0
+returns-clause-marks g c = (mend_ends c.loop-row.invariant.picture_mended (omega (arith, c.loop-row-test.false)) (omega arith)).0
 
 pub returns-clause-picture_after : goal.returns-clause-picture_after
-returns-clause-picture_after g c = (mend_ends c.loop-row.invariant.picture_mended c.loop-row-test.false (omega arith)).1
+returns-clause-picture_after g c = (mend_ends c.loop-row.invariant.picture_mended (omega (arith, c.loop-row-test.false)) (omega arith)).1
 
 pub returns-clause-rows_noted : goal.returns-clause-rows_noted
 returns-clause-rows_noted g c =
