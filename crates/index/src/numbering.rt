@@ -100,9 +100,7 @@ fn change_places<C: Change>(entries: &mut [u8], start: Place, bytes: usize, chan
 }
 
 // Changes the entries of all that a row reads: bytes of screen memory, the attribute bytes beside its cells and, if it
-// has a link, the one beside its low byte. A call of its own: its loops take longer where they are a part of the loops
-// of rows.
-#[inline(never)]
+// has a link, the one beside its low byte.
 pub fn change_row<C: Change>(index: &mut Index, read: &RowRead, change: C)
     requires { InPlaces read.now }
     ensures { Changed (read_at read.now) (C.changed change) index.old index.new }

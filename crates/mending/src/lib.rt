@@ -46,17 +46,35 @@ impl From<Result<u32, Refusal>> for Stored {
     }
 }
 
-// Whether a record that was drawn differs from the one that was kept. The loop has no way out but its end, so that the
-// bytes are compared together. To compare arrays as they are, compilers call the C library's `bcmp`, which a caller in C
-// may not have.
-fn differ(kept: &Record, drawn: &Record) -> bool
+// Where the pairs after the 80th stand in a record.
+const LAST_PAIRS_AT: usize = 164;
+
+// Whether two parts of the same length differ. The loop has no way out but its end, so that the bytes are compared
+// together. To compare slices as they are, compilers call the C library's `bcmp`, which a caller in C may not have.
+fn differ(kept: &[u8], drawn: &[u8]) -> bool
+    requires { length drawn.now ≡ length kept.now }
     ensures { result ≡ not (bytes_eq kept.now drawn.now) }
 {
     let mut differ = false;
-    for at in 0..records::RECORD_BYTES {
+    for at in 0..kept.len() {
         differ |= kept[at] != drawn[at];
     }
     differ
+}
+
+// Whether a record that was drawn differs from the one that was kept, in three parts. A processor waits where it reads
+// bytes just written in other pieces than it wrote them in. So each part begins where a piece began; and the first
+// pairs, which `draw_row` writes last and in smaller pieces, come after the last ones.
+fn records_differ(kept: &Record, drawn: &Record) -> bool
+    ensures { result ≡ not (bytes_eq kept.now drawn.now) }
+{
+    let last = differ(&kept[LAST_PAIRS_AT..], &drawn[LAST_PAIRS_AT..]);
+    let first = differ(
+        &kept[records::HEAD_BYTES..LAST_PAIRS_AT],
+        &drawn[records::HEAD_BYTES..LAST_PAIRS_AT],
+    );
+    let head = differ(&kept[..records::HEAD_BYTES], &drawn[..records::HEAD_BYTES]);
+    last | first | head
 }
 
 // Puts a record that was drawn in the place of the one that was kept, and says whether they differed. Most records
@@ -65,7 +83,7 @@ fn replace(kept: &mut Record, drawn: &Record) -> bool
     ensures value { result ≡ not (bytes_eq kept.old drawn.now) }
     ensures kept_after { kept.new ≡ drawn.now }
 {
-    if !differ(kept, drawn) {
+    if !records_differ(kept, drawn) {
         return false;
     }
     kept.copy_from_slice(drawn);

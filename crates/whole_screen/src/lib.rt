@@ -41,7 +41,9 @@ fn row_scrolls(picture: &Picture, row: usize) -> bool
     picture[row * records::RECORD_BYTES + records::KIND_AT] % 8 / 4 == 1
 }
 
-// The first run of rows that scroll, if there is one.
+// The first run of rows that scroll, if there is one. A call of its own: of loops among what follows them a compiler
+// makes longer ones.
+#[inline(never)]
 fn first_run(picture: &Picture) -> Option<Run>
     ensures { result ≡ run_of (kinds_in picture.now) }
 {
