@@ -28,15 +28,17 @@ fn main(rt: HostRuntime) -> io::Result<()> {
         return take(&rt, &mut desk, &mut rt.stdin(), false);
     }
     // A file stays open until the next one is: a pipe that is named twice has a reader all the time.
-    let mut file: Option<File> = None;
+    let mut before: Option<File> = None;
     for argument in 1..usize::MAX {
         if !console::has_argument(&rt, argument) {
             break;
         }
-        file = input::opened(&rt, argument)?;
+        let mut file = input::opened(&rt, argument)?;
+        drop(before);
         if let Some(file) = &mut file {
             take(&rt, &mut desk, file, true)?;
         }
+        before = file;
     }
     Ok(())
 }
